@@ -1,0 +1,37 @@
+//! Numbers in decimal digits.
+ghost use Rattle.std.specs.Prelude.{◌≡◌, ◌↔◌, ◌<◌, ◌^◌, ℕ, length, IsSome, IfSome};
+ghost use Rattle.com_text.specs.Digits.{in_digits, IsNumber, number};
+
+/// How many digits a number has at most where it is read.
+pub const MAX_DIGITS: usize = 18;
+
+/// Writes a number in decimal over the whole of `into`, with leading zeros.
+pub fn digits(n: u64, into: &mut [u8])
+    requires { n < 10 ^ length into.old }
+    ensures { into.new ≡ in_digits n (length into.old) }
+{
+    let mut left = n;
+    for place in into.iter_mut().rev() {
+        *place = b'0' + (left % 10) as u8;
+        left /= 10;
+    }
+}
+
+/// The number that decimal digits write, leading zeros or not: None exactly where there are no
+/// bytes, more than 18, or one that is no digit.
+pub fn number_of(bytes: &[u8]) -> Option<u64>
+    ensures some { IsSome result ↔ IsNumber bytes.now }
+    ensures number { IfSome result (λ n. n ≡ number bytes.now) }
+{
+    if bytes.is_empty() || bytes.len() > MAX_DIGITS {
+        return None;
+    }
+    let mut number = 0u64;
+    for byte in bytes {
+        if !byte.is_ascii_digit() {
+            return None;
+        }
+        number = number * 10 + u64::from(*byte - b'0');
+    }
+    Some(number)
+}

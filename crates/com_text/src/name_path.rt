@@ -1,0 +1,62 @@
+//! Paths of names through a queue tree.
+ghost use Rattle.std.specs.Prelude.{◌≡◌, ◌↔◌, ◌≤◌, ℕ, List, [], ◌∷◌, ◌++◌, length, IsNone, IfSome};
+
+use crate::Name;
+use std::marker::Model;
+
+/// How many names a path has at most.
+pub const MAX_NAMES: usize = 4;
+
+/// One to four names, from the top of a queue tree down. Contracts see the list of the names.
+#[derive(Clone, Copy, Debug, PartialEq, Eq)]
+pub struct NamePath {
+    // The places past the path repeat its first name.
+    names: [Name; MAX_NAMES],
+    count: usize,
+}
+
+impl Model for NamePath {
+    ghost use Rattle.std.specs.Prelude.{◌≡◌, ◌≤◌, List, ℕ, length, take};
+    ghost use Rattle.com_text.specs.Name.{filled_path};
+
+    ghost Value = { List (List ℕ) };
+
+    ghost view = { λ path. take path.count path.names };
+
+    ghost invariant = { λ path. (1 ≤ path.count) × (path.count ≤ 4) × (path.names ≡ filled_path (take path.count path.names)) };
+
+    ghost inverse = { λ names. record { names = filled_path names; count = length names } };
+}
+
+impl NamePath {
+    pub fn new(first: Name) -> NamePath
+        ensures { result ≡ first ∷ [] }
+    {
+        NamePath {
+            names: [first; MAX_NAMES],
+            count: 1,
+        }
+    }
+
+    /// The path with one more name below: None exactly at four names.
+    pub fn then(&self, next: Name) -> Option<NamePath>
+        ensures none { IsNone result ↔ (length self.now ≡ 4) }
+        ensures longer { IfSome result (λ path. path ≡ self.now ++ next ∷ []) }
+    {
+        if self.count == MAX_NAMES {
+            return None;
+        }
+        let mut path = *self;
+        path.names[path.count] = next;
+        path.count += 1;
+        Some(path)
+    }
+
+    pub fn names(&self) -> &[Name]
+        ensures names { result.now ≡ self.now }
+        ensures some { 1 ≤ length self.now }
+        ensures few { length self.now ≤ 4 }
+    {
+        &self.names[..self.count]
+    }
+}

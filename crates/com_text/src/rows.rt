@@ -1,0 +1,94 @@
+//! A list that owns its items.
+ghost use Rattle.std.specs.Prelude.{◌≡◌, List, [], ◌∷◌, ◌++◌, OnOk, OnErr, IfErr, take, length};
+
+use std::alloc::{AllocError, AllocFailed, Global};
+use std::marker::Model;
+
+/// A list of items, which contracts see as a list. It grows at its end alone.
+#[derive(Debug, Drop)]
+pub struct Rows<T> {
+    items: Vec<T>,
+}
+
+impl<T> Model for Rows<T> {
+    ghost Value = { List T };
+
+    ghost view = { λ rows. rows.items.items };
+}
+
+impl<T> Rows<T> {
+    /// An empty list, which takes no memory.
+    pub fn new(alloc: Global) -> Self
+        ensures { result ≡ [] }
+    {
+        Rows {
+            items: Vec::new(alloc),
+        }
+    }
+
+    /// Adds an item at the end. Without memory the list stays as it was, and the item is handed back.
+    pub fn push(&mut self, item: T) -> Result<(), (T, AllocError)>
+        ensures ok { OnOk result (self.new ≡ self.old ++ item ∷ []) }
+        ensures err { OnErr result (self.new ≡ self.old) }
+        ensures handed_back { IfErr result (λ refused. refused.0 ≡ item) }
+    {
+        match self.items.push(item) {
+            Ok(()) => Ok(()),
+            Err(AllocFailed { value, .. }) => Err((value, AllocError)),
+        }
+    }
+
+    pub fn as_slice(&self) -> &[T]
+        ensures { result.now ≡ self.now }
+    {
+        self.items.as_slice()
+    }
+
+    /// The list of a `Vec`'s items, with the room that it has reserved.
+    pub fn of_vec(items: Vec<T>) -> Self
+        ensures { result ≡ items.items }
+    {
+        Rows { items }
+    }
+
+    pub fn into_vec(self) -> Vec<T>
+        ensures { result.items ≡ self }
+    {
+        let Rows { items } = self;
+        items
+    }
+}
+
+impl Rows<u8> {
+    // Adds three parts at the end, or none of them.
+    pub(crate) fn extend_all(
+        &mut self,
+        first: &[u8],
+        second: &[u8],
+        third: &[u8],
+    ) -> Result<(), AllocError>
+        ensures ok { OnOk result (self.new ≡ self.old ++ (first.now ++ (second.now ++ third.now))) }
+        ensures err { OnErr result (self.new ≡ self.old) }
+    {
+        let before = self.items.len();
+        let added = add_parts(&mut self.items, first, second, third);
+        if added.is_err() {
+            self.items.truncate(before);
+        }
+        added
+    }
+}
+
+fn add_parts(
+    items: &mut Vec<u8>,
+    first: &[u8],
+    second: &[u8],
+    third: &[u8],
+) -> Result<(), AllocError>
+    ensures ok { OnOk result (items.new.items ≡ items.old.items ++ (first.now ++ (second.now ++ third.now))) }
+    ensures front { take (length items.old.items) items.new.items ≡ items.old.items }
+{
+    items.extend_from_slice(first)?;
+    items.extend_from_slice(second)?;
+    items.extend_from_slice(third)
+}

@@ -1,0 +1,86 @@
+//! A text: characters of 20 to 7E hexadecimal.
+ghost use Rattle.std.specs.Prelude.{◌≡◌, ℕ, List, MatchOption, IfOk};
+ghost use Rattle.com_text.specs.Text.{IsText, IsFirstBadByte, is_text_byte};
+
+use std::alloc::{AllocError, Global};
+use std::marker::Model;
+use thiserror::Error;
+
+/// A list of characters of 20 to 7E hexadecimal, which contracts see as a list.
+#[derive(Debug, Drop)]
+pub struct Text {
+    bytes: Vec<u8>,
+}
+
+impl Model for Text {
+    ghost Value = { List ℕ };
+
+    ghost view = { λ text. text.bytes.items };
+
+    ghost invariant = { λ text. IsText text.bytes.items };
+}
+
+/// Why bytes were not read as a text.
+#[derive(Debug, Drop, Error)]
+pub enum TextError {
+    /// `at` is the place, from 0, of the first byte outside 20 to 7E hexadecimal.
+    #[error("the byte at {at} is no character of a text")]
+    BadByte { at: usize },
+    #[error("out of memory")]
+    Memory(AllocError),
+}
+
+impl Text {
+    /// A copy of the bytes, where each is a character of a text.
+    pub fn read(alloc: Global, bytes: &[u8]) -> Result<Text, TextError>
+        ensures ok { IfOk result (λ text. text ≡ bytes.now) }
+        ensures only_texts { IfOk result (λ text. IsText text) }
+        ensures bad_byte { (at : ℕ) → result ≡ Err (TextError.BadByte at) → IsFirstBadByte bytes.now at }
+    {
+        if let Some(at) = first_bad_byte(bytes) {
+            return Err(TextError::BadByte { at });
+        }
+        let bytes = Vec::from_slice(alloc, bytes).map_err(TextError::Memory)?;
+        Ok(Text { bytes })
+    }
+
+    /// The text that a `Vec` holds, with the room that it has reserved.
+    pub fn of_vec(bytes: Vec<u8>) -> Text
+        requires { IsText bytes.items }
+        ensures { result ≡ bytes.items }
+    {
+        Text { bytes }
+    }
+
+    pub fn as_bytes(&self) -> &[u8]
+        ensures same { result.now ≡ self.now }
+        ensures text { IsText self.now }
+    {
+        self.bytes.as_slice()
+    }
+
+    pub fn copy(&self) -> Result<Text, AllocError>
+        ensures { IfOk result (λ text. text ≡ self.now) }
+    {
+        let bytes = self.bytes.clone()?;
+        Ok(Text { bytes })
+    }
+}
+
+fn first_bad_byte(bytes: &[u8]) -> Option<usize>
+    ensures { MatchOption result (IsText bytes.now) (IsFirstBadByte bytes.now) }
+{
+    for (at, byte) in bytes.iter().enumerate() {
+        if !is_text_byte(*byte) {
+            return Some(at);
+        }
+    }
+    None
+}
+
+/// Whether a byte is a character of a text.
+pub fn is_text_byte(byte: u8) -> bool
+    ensures { result ≡ is_text_byte byte }
+{
+    0x20 <= byte && byte <= 0x7E
+}
