@@ -1,5 +1,5 @@
 -- A counted field: how many bytes it has, in decimal, a colon, and the bytes.
-use Rattle.std.specs.Prelude.{◌≡◌, ℕ, ◌≤◌, List, ◌∷◌, ◌++◌, length, take, slice_range, decimal}
+use Rattle.std.specs.Prelude.{◌≡◌, ℕ, ◌≤◌, List, ◌∷◌, ◌++◌, length, take, slice_range, slice_index, decimal, Bool, ◌==◌}
 
 abbrev pub counted : List ℕ → List ℕ
 counted content = decimal (length content) ++ 58 ∷ content
@@ -7,6 +7,13 @@ counted content = decimal (length content) ++ 58 ∷ content
 -- a field has at most 999,999 bytes
 abbrev pub IsCountable : List ℕ → Type 0
 IsCountable content = length content ≤ 999999
+
+abbrev pub is_colon : ℕ → Bool
+is_colon byte = byte == 58
+
+-- more than one digit, of which the first is a zero
+abbrev pub HasLeadingZero : List ℕ → Type 0
+HasLeadingZero digits = (2 ≤ length digits) × (slice_index digits 0 ≡ 48)
 
 -- the front of the bytes is a counted field, whose content stands from one place to before the other
 pub record StandsAt (bytes : List ℕ) (from past : ℕ) : Type 0 where

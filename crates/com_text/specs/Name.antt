@@ -1,5 +1,5 @@
 -- Names of queues, terminals and units, the fields of 12 characters that hold them, and paths of names.
-use Rattle.std.specs.Prelude.{◌≡◌, ℕ, ◌-◌, ◌<◌, ◌≤◌, Bool, IsTrue, not, ◌&&◌, ◌||◌, ◌==◌, nat_le, List, [], ◌∷◌, ◌++◌, length, slice_index, replicate, take}
+use Rattle.std.specs.Prelude.{ℕ, ◌-◌, Bool, IsTrue, not, ◌&&◌, ◌||◌, ◌==◌, nat_le, List, [], ◌∷◌, ◌++◌, length, slice_index, replicate}
 use Rattle.std.specs.List.{list_all, list_any, take_while}
 
 abbrev pub is_letter : ℕ → Bool
@@ -31,9 +31,13 @@ spaces n = replicate n 32
 abbrev pub field_of : List ℕ → List ℕ
 field_of name = name ++ spaces (12 - length name)
 
+-- no space
+abbrev pub is_character : ℕ → Bool
+is_character byte = not (byte == 32)
+
 -- what stands before the first space
 abbrev pub before_space : List ℕ → List ℕ
-before_space field = take_while (λ byte. not (byte == 32)) field
+before_space field = take_while is_character field
 
 -- the names of a path, and then its first name again up to four
 abbrev pub filled_path : List (List ℕ) → List (List ℕ)

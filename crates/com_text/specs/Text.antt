@@ -5,8 +5,11 @@ use Rattle.std.specs.List.{list_all}
 abbrev pub is_text_byte : ℕ → Bool
 is_text_byte byte = nat_le 0x20 byte && nat_le byte 0x7E
 
+abbrev pub is_text : List ℕ → Bool
+is_text bytes = list_all is_text_byte bytes
+
 abbrev pub IsText : List ℕ → Type 0
-IsText bytes = IsTrue (list_all is_text_byte bytes)
+IsText bytes = IsTrue (is_text bytes)
 
 -- the byte at this place is none of a text, and all before it are
 pub record IsFirstBadByte (bytes : List ℕ) (at : ℕ) : Type 0 where

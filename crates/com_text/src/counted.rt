@@ -1,12 +1,16 @@
 //! Counted fields: bytes behind their number, so that any byte may stand in them.
-ghost use Rattle.std.specs.Prelude.{◌≡◌, ◌+◌, ℕ, List, ◌++◌, length, decimal, Some, OnOk, OnErr, IfSome};
-ghost use Rattle.com_text.specs.Counted.{counted, IsCountable, StandsAt};
+ghost use Rattle.std.specs.Prelude.{◌≡◌, ◌↔◌, ◌≤◌, ◌+◌, ℕ, take, List, ◌++◌, length, decimal, IsTrue, Some, OnOk, OnErr, IfSome};
+ghost use Rattle.std.specs.List.{position};
+ghost use Rattle.com_text.specs.Counted.{counted, is_colon, IsCountable, HasLeadingZero, StandsAt};
 
 use crate::{Rows, number_of};
 use std::alloc::AllocError;
 
 /// How many bytes a counted field has at most.
 pub const MAX_COUNTED: usize = 999_999;
+
+// How many digits the number of a counted field has at most.
+const COUNT_DIGITS: usize = 6;
 
 /// Adds a counted field at the end. Without memory nothing is added.
 pub fn put_counted(out: &mut Rows<u8>, bytes: &[u8]) -> Result<(), AllocError>
@@ -28,15 +32,38 @@ pub fn take_counted(bytes: &[u8]) -> Option<(usize, usize)>
     ensures put { (content rest : List ℕ) → IsCountable content → bytes.now ≡ counted content ++ rest
         → result ≡ Some (length (decimal (length content)) + 1, length (counted content)) }
 {
-    let colon = bytes.iter().take(7).position(|byte| *byte == b':')?;
-    let count = &bytes[..colon];
-    if colon > 1 && count[0] == b'0' {
-        return None;
-    }
-    let length = number_of(count)? as usize;
+    let colon = colon_in(bytes)?;
+    let count = count_of(&bytes[..colon])?;
     let from = colon + 1;
-    if length > bytes.len() - from {
+    if count > bytes.len() - from {
         return None;
     }
-    Some((from, from + length))
+    Some((from, from + count))
+}
+
+// The place of the first colon, where it is near enough that a number stands before it.
+fn colon_in(bytes: &[u8]) -> Option<usize>
+    ensures { result ≡ position is_colon (take 7 bytes.now) }
+{
+    bytes
+        .iter()
+        .take(COUNT_DIGITS + 1)
+        .position(|byte| *byte == b':')
+}
+
+// The number of bytes that these digits say, written as a counted field writes it.
+fn count_of(digits: &[u8]) -> Option<usize>
+    ensures { (count : ℕ) → (result ≡ Some count) ↔ ((count ≤ 999999) × (digits.now ≡ decimal count)) }
+{
+    if digits.len() > COUNT_DIGITS || has_leading_zero(digits) {
+        return None;
+    }
+    let count = number_of(digits)?;
+    Some(count as usize)
+}
+
+fn has_leading_zero(digits: &[u8]) -> bool
+    ensures { IsTrue result ↔ HasLeadingZero digits.now }
+{
+    digits.len() > 1 && digits[0] == b'0'
 }

@@ -1,6 +1,9 @@
 //! Numbers in decimal digits.
-ghost use Rattle.std.specs.Prelude.{◌≡◌, ◌↔◌, ◌<◌, ◌^◌, ℕ, length, IsSome, IfSome};
+ghost use Rattle.std.specs.Prelude.{◌≡◌, ◌↔◌, ◌<◌, ◌^◌, ◌++◌, ℕ, length, decimal, IsSome, IfSome, OnOk, OnErr};
 ghost use Rattle.com_text.specs.Digits.{in_digits, IsNumber, number};
+
+use crate::Rows;
+use std::alloc::AllocError;
 
 /// How many digits a number has at most where it is read.
 pub const MAX_DIGITS: usize = 18;
@@ -8,11 +11,12 @@ pub const MAX_DIGITS: usize = 18;
 /// Writes a number in decimal over the whole of `into`, with leading zeros.
 pub fn digits(n: u64, into: &mut [u8])
     requires { n < 10 ^ length into.old }
-    ensures { into.new ≡ in_digits n (length into.old) }
+    ensures digits { into.new ≡ in_digits n (length into.old) }
+    ensures number { number into.new ≡ n }
 {
     let mut left = n;
-    for place in into.iter_mut().rev() {
-        *place = b'0' + (left % 10) as u8;
+    for place in (0..into.len()).rev() {
+        into[place] = b'0' + (left % 10) as u8;
         left /= 10;
     }
 }
@@ -34,4 +38,13 @@ pub fn number_of(bytes: &[u8]) -> Option<u64>
         number = number * 10 + u64::from(*byte - b'0');
     }
     Some(number)
+}
+
+/// Adds a number in decimal at the end, without leading zeros. Without memory nothing is added.
+pub fn put_number(out: &mut Rows<u8>, n: u64) -> Result<(), AllocError>
+    ensures ok { OnOk result (out.new ≡ out.old ++ decimal n) }
+    ensures err { OnErr result (out.new ≡ out.old) }
+{
+    let mut digits = itoa::Buffer::new();
+    out.extend_from_slice(digits.format(n).as_bytes())
 }

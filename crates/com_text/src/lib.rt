@@ -9,8 +9,8 @@ mod rows;
 mod text;
 
 pub use counted::{MAX_COUNTED, put_counted, take_counted};
-pub use decimal::{MAX_DIGITS, digits, number_of};
+pub use decimal::{MAX_DIGITS, digits, number_of, put_number};
 pub use name::{FIELD_LENGTH, Field, Name};
 pub use name_path::{MAX_NAMES, NamePath};
 pub use rows::Rows;
-pub use text::{Text, TextError, is_text_byte};
+pub use text::{Text, TextError, is_text, is_text_byte};

@@ -1,6 +1,10 @@
 //! Names of queues, terminals and units.
-ghost use Rattle.std.specs.Prelude.{◌≡◌, ◌↔◌, ℕ, List, IsTrue, IsSome, IfSome};
-ghost use Rattle.com_text.specs.Name.{IsName, field_of, spaces, is_name_byte};
+ghost use Rattle.std.specs.Prelude.{◌≡◌, ◌↔◌, ◌≤◌, ℕ, List, IsTrue, IsSome, IfSome, bytes_eq};
+ghost use Rattle.std.specs.List.{list_all, list_any, prefix_len};
+ghost use Rattle.com_text.specs.Text.{IsText};
+ghost use Rattle.com_text.specs.Name.{IsName, field_of, spaces, is_name, is_name_byte, is_letter, is_character};
+ghost use Rattle.std.specs.Cmp.Rules.{comparing};
+ghost use Rattle.std.proofs.Common.{rules};
 
 use std::marker::Model;
 
@@ -9,7 +13,7 @@ pub const FIELD_LENGTH: usize = 12;
 
 /// A name: 1 to 12 letters A to Z, digits and hyphens, with at least one letter and no hyphen at
 /// either end. Contracts see its characters.
-#[derive(Clone, Copy, Debug, PartialEq, Eq, Hash)]
+#[derive(Clone, Copy, Debug, Eq, Hash)]
 pub struct Name {
     field: [u8; FIELD_LENGTH],
 }
@@ -25,6 +29,16 @@ impl Model for Name {
     ghost invariant = { λ name. IsName (before_space name.field) × (name.field ≡ field_of (before_space name.field)) };
 
     ghost inverse = { λ bytes. record { field = field_of bytes } };
+}
+
+impl PartialEq for Name {
+    ghost eq = { bytes_eq };
+
+    ghost laws = { Prim.search (comparing, rules) };
+
+    fn eq(&self, other: &Name) -> bool {
+        self.field == other.field
+    }
 }
 
 /// What a field of 12 characters holds.
@@ -55,6 +69,7 @@ impl Name {
     pub fn field(&self) -> [u8; FIELD_LENGTH]
         ensures field { result ≡ field_of self.now }
         ensures valid { IsName self.now }
+        ensures text { IsText result }
     {
         self.field
     }
@@ -64,12 +79,8 @@ impl Name {
         ensures characters { result.now ≡ self.now }
         ensures valid { IsName self.now }
     {
-        let length = self
-            .field
-            .iter()
-            .position(|byte| *byte == b' ')
-            .unwrap_or(FIELD_LENGTH);
-        &self.field[..length]
+        let (characters, _) = self.field.split_at(length_before_space(&self.field));
+        characters
     }
 
     /// What a field holds. A name that begins later than the field's first character, or that
@@ -78,34 +89,57 @@ impl Name {
         ensures spaces { (result ≡ Field.Spaces) ↔ (field.now ≡ spaces 12) }
         ensures named { (name : List ℕ) → (result ≡ Field.Named name) ↔ (IsName name × (field.now ≡ field_of name)) }
     {
-        let length = field
-            .iter()
-            .position(|byte| *byte == b' ')
-            .unwrap_or(FIELD_LENGTH);
-        if field[length..].iter().any(|byte| *byte != b' ') {
+        let (characters, rest) = field.split_at(length_before_space(field));
+        if has_character(rest) {
             return Field::Bad;
         }
-        if length == 0 {
+        if characters.is_empty() {
             return Field::Spaces;
         }
-        Name::new(&field[..length]).map_or(Field::Bad, Field::Named)
+        match Name::new(characters) {
+            Some(name) => Field::Named(name),
+            None => Field::Bad,
+        }
     }
 }
 
-fn is_name(bytes: &[u8]) -> bool
-    ensures { IsTrue result ↔ IsName bytes.now }
+// How many characters stand before the first space.
+fn length_before_space(field: &[u8; FIELD_LENGTH]) -> usize
+    ensures length { result ≡ prefix_len is_character field.now }
+    ensures within { result ≤ 12 }
 {
-    match bytes {
-        [] => false,
-        [first, ..] => {
-            let last = bytes[bytes.len() - 1];
-            bytes.len() <= FIELD_LENGTH
-                && bytes.iter().all(|byte| is_name_byte(*byte))
-                && bytes.iter().any(|byte| byte.is_ascii_uppercase())
-                && *first != b'-'
-                && last != b'-'
-        }
+    field
+        .iter()
+        .position(|byte| *byte == b' ')
+        .unwrap_or(FIELD_LENGTH)
+}
+
+// Whether a byte is no space.
+fn has_character(bytes: &[u8]) -> bool
+    ensures { result ≡ list_any is_character bytes.now }
+{
+    bytes.iter().any(|byte| *byte != b' ')
+}
+
+fn is_name(bytes: &[u8]) -> bool
+    ensures { result ≡ is_name bytes.now }
+{
+    if bytes.is_empty() || bytes.len() > FIELD_LENGTH {
+        return false;
     }
+    has_name_bytes(bytes) && has_letter(bytes) && bytes[0] != b'-' && bytes[bytes.len() - 1] != b'-'
+}
+
+fn has_name_bytes(bytes: &[u8]) -> bool
+    ensures { result ≡ list_all is_name_byte bytes.now }
+{
+    bytes.iter().all(|byte| is_name_byte(*byte))
+}
+
+fn has_letter(bytes: &[u8]) -> bool
+    ensures { result ≡ list_any is_letter bytes.now }
+{
+    bytes.iter().any(|byte| byte.is_ascii_uppercase())
 }
 
 fn is_name_byte(byte: u8) -> bool

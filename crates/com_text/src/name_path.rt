@@ -1,5 +1,8 @@
 //! Paths of names through a queue tree.
-ghost use Rattle.std.specs.Prelude.{◌≡◌, ◌↔◌, ◌≤◌, ℕ, List, [], ◌∷◌, ◌++◌, length, IsNone, IfSome};
+ghost use Rattle.std.specs.Prelude.{◌≡◌, ◌↔◌, ◌≤◌, ℕ, List, [], ◌∷◌, ◌++◌, length, IsNone, IfSome, bytes_eq};
+ghost use Rattle.std.specs.Cmp.Lexicographic.{pointwise};
+ghost use Rattle.std.specs.Cmp.Rules.{comparing};
+ghost use Rattle.std.proofs.Common.{rules};
 
 use crate::Name;
 use std::marker::Model;
@@ -8,7 +11,7 @@ use std::marker::Model;
 pub const MAX_NAMES: usize = 4;
 
 /// One to four names, from the top of a queue tree down. Contracts see the list of the names.
-#[derive(Clone, Copy, Debug, PartialEq, Eq)]
+#[derive(Clone, Copy, Debug, Eq)]
 pub struct NamePath {
     // The places past the path repeat its first name.
     names: [Name; MAX_NAMES],
@@ -23,9 +26,19 @@ impl Model for NamePath {
 
     ghost view = { λ path. take path.count path.names };
 
-    ghost invariant = { λ path. (1 ≤ path.count) × (path.count ≤ 4) × (path.names ≡ filled_path (take path.count path.names)) };
+    ghost invariant = { λ path. (1 ≤ path.count) × (path.count ≡ length (take path.count path.names)) × (path.names ≡ filled_path (take path.count path.names)) × (length path.names ≡ 4) };
 
     ghost inverse = { λ names. record { names = filled_path names; count = length names } };
+}
+
+impl PartialEq for NamePath {
+    ghost eq = { pointwise bytes_eq };
+
+    ghost laws = { Prim.search (comparing, rules) };
+
+    fn eq(&self, other: &NamePath) -> bool {
+        self.names() == other.names()
+    }
 }
 
 impl NamePath {

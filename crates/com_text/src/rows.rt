@@ -44,6 +44,11 @@ impl<T> Rows<T> {
         self.items.as_slice()
     }
 
+    /// The allocator that the list grows by.
+    pub fn allocator(&self) -> Global {
+        *self.items.allocator()
+    }
+
     /// The list of a `Vec`'s items, with the room that it has reserved.
     pub fn of_vec(items: Vec<T>) -> Self
         ensures { result ≡ items.items }
@@ -60,6 +65,14 @@ impl<T> Rows<T> {
 }
 
 impl Rows<u8> {
+    /// Adds bytes at the end. Without memory nothing is added.
+    pub fn extend_from_slice(&mut self, bytes: &[u8]) -> Result<(), AllocError>
+        ensures ok { OnOk result (self.new ≡ self.old ++ bytes.now) }
+        ensures err { OnErr result (self.new ≡ self.old) }
+    {
+        self.items.extend_from_slice(bytes)
+    }
+
     // Adds three parts at the end, or none of them.
     pub(crate) fn extend_all(
         &mut self,

@@ -1,6 +1,6 @@
 //! A text: characters of 20 to 7E hexadecimal.
 ghost use Rattle.std.specs.Prelude.{◌≡◌, ℕ, List, MatchOption, IfOk};
-ghost use Rattle.com_text.specs.Text.{IsText, IsFirstBadByte, is_text_byte};
+ghost use Rattle.com_text.specs.Text.{IsText, IsFirstBadByte, is_text, is_text_byte};
 
 use std::alloc::{AllocError, Global};
 use std::marker::Model;
@@ -83,4 +83,11 @@ pub fn is_text_byte(byte: u8) -> bool
     ensures { result ≡ is_text_byte byte }
 {
     0x20 <= byte && byte <= 0x7E
+}
+
+/// Whether each byte is a character of a text.
+pub fn is_text(bytes: &[u8]) -> bool
+    ensures { result ≡ is_text bytes.now }
+{
+    bytes.iter().all(|byte| is_text_byte(*byte))
 }
