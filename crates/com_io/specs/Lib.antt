@@ -1,0 +1,10 @@
+pub mod Codes
+pub mod Faults
+pub mod Folder
+pub mod Listed
+pub mod Named
+pub mod Reading
+pub mod Shelf
+pub mod Sources
+pub mod Stores
+pub use Rattle.com_msg.specs.Stamp

@@ -1,0 +1,28 @@
+//! What time it is.
+ghost use Rattle.std.specs.Prelude.{◌≡◌};
+ghost use Rattle.com_msg.specs.Stamp.{Moment};
+
+use com_msg::Stamp;
+
+/// A clock. It promises no order of moments.
+pub trait Clock {
+    /// The moments that the clock may say.
+    ghost says: { Self → Moment → Type 0 };
+
+    fn now(&self) -> Stamp
+        ensures { says self.now result };
+}
+
+/// A clock that stands still, and says its own stamp alone.
+#[derive(Clone, Copy, Debug, PartialEq, Eq)]
+pub struct FixedClock {
+    pub stamp: Stamp,
+}
+
+impl Clock for FixedClock {
+    ghost says = { λ clock moment. moment ≡ clock.stamp };
+
+    fn now(&self) -> Stamp {
+        self.stamp
+    }
+}
