@@ -1,0 +1,11 @@
+mod CallTexts
+mod Chunks
+mod Documents
+mod LineParts
+mod Lines
+mod Outs
+mod Performance
+mod ScriptLines
+mod Steps
+mod Replays
+mod Commands

@@ -1,0 +1,15 @@
+pub mod Network
+pub mod System
+pub mod SystemState
+pub mod Journal
+pub mod Script
+pub mod Writing
+pub mod Files
+pub mod Reads
+pub mod Outputs
+pub mod Replay
+pub mod Refusal
+pub mod Performing
+pub mod Writes
+pub mod Reading
+pub mod Failing

@@ -1,0 +1,185 @@
+-- What `replay` does, by the words it is given and what the store holds before and after.
+use Rattle.std.specs.Prelude.{◌≡◌, ℕ, ◌<◌, ◌≤◌, ◌⊎◌, Bool, not, ◌&&◌, ◌||◌, ◌==◌, nat_lt, List, [], ◌∷◌, ◌++◌, length, slice_index, option_map, IsTrue, codes, decimal}
+use Rattle.com_io.specs.Faults.{Rose}
+use Rattle.com_io.specs.Stores.{Shown, with_written, IsPartWritten}
+use Rattle.mcs_top.specs.declared.net.Net.{Net}
+use Rattle.mcs_top.specs.declared.events.Entry.{Entry}
+use Rattle.mcs_top.specs.declared.script.Reason.{Reason}
+use Rattle.mcs_top.specs.declared.script.Reason.TheVariants.{Size, Text, NotYet, NotAllowed}
+use Rattle.mcs_top.specs.Files.{file_limit, IsRead, IsUnopened, IsUnreadable, IsUnwritten, HasNoFault}
+use Rattle.mcs_top.specs.Network.{Describes}
+use Rattle.mcs_top.specs.System.{Legal}
+use Rattle.mcs_top.specs.Journal.{IsJournal}
+use Rattle.mcs_top.specs.Script.{MakesCallsOf}
+use Rattle.mcs_top.specs.Refusal.{IsRefused}
+use Rattle.mcs_top.specs.Outputs.{outputs, output_name, all_written, IsPartlyWritten}
+
+-- a word that names a file: not empty, and not beginning with a hyphen
+abbrev pub is_file_word : List ℕ → Bool
+is_file_word word = nat_lt 0 (length word) && not (slice_index word 0 == 45)
+
+pub record IsReplay (words : List (List ℕ)) (net_file script_file : List ℕ) : Type 0 where
+  pub all : words ≡ codes "replay" ∷ net_file ∷ script_file ∷ []
+  pub is_net_file : IsTrue (is_file_word net_file)
+  pub is_script_file : IsTrue (is_file_word script_file)
+
+-- The words ask to replay these two files, and this holds of them.
+pub record OfReplay (words : List (List ℕ)) (P : List ℕ → List ℕ → Type 0) : Type 0 where
+  pub net_file : List ℕ
+  pub script_file : List ℕ
+  pub command : IsReplay words net_file script_file
+  pub holds : P net_file script_file
+
+-- NET was read, and describes this network.
+pub record IsNetRead (net_file : List ℕ) (before read : Shown) (net : Net) : Type 0 where
+  pub description : List ℕ
+  pub is_read : IsRead net_file description before read
+  pub short : length description ≤ file_limit
+  pub described : Describes description net
+
+-- SCRIPT was read, and this legal history makes just its calls.
+pub record IsScriptDone (script_file : List ℕ) (net : Net) (before read : Shown) (history : List Entry) : Type 0 where
+  pub script : List ℕ
+  pub is_read : IsRead script_file script before read
+  pub short : length script ≤ file_limit
+  pub calls : MakesCallsOf script history
+  pub legal : Legal net history
+
+-- Both files were read and closed, and all that the store shows else is as before; the journal is that of
+-- the history of the script's calls.
+pub record IsPerformed (net_file script_file : List ℕ) (before read : Shown) (net : Net) (history : List Entry) (journal : List ℕ) : Type 0 where
+  pub between : Shown
+  pub net_read : IsNetRead net_file before between net
+  pub script_done : IsScriptDone script_file net between read history
+  pub journal_text : IsJournal history journal
+
+-- The history was written as the journal, with the transcript and the summary, and nothing else changed
+-- but that both files were read and closed. No fault was counted.
+pub record HasReplayed (before after : Shown) (net_file script_file : List ℕ) : Type 0 where
+  pub net : Net
+  pub history : List Entry
+  pub journal : List ℕ
+  pub read : Shown
+  pub performed : IsPerformed net_file script_file before read net history journal
+  pub contents : after.contents ≡ option_map (all_written (outputs net history journal)) read.contents
+  pub no_fault : HasNoFault before after
+
+-- A write of the outputs did not go through. The history is as where all is written, and what was written
+-- is a prefix of what was to be written.
+pub record IsCutShort (before after : Shown) (net_file script_file : List ℕ) : Type 0 where
+  pub net : Net
+  pub history : List Entry
+  pub journal : List ℕ
+  pub read : Shown
+  pub performed : IsPerformed net_file script_file before read net history journal
+  pub contents : IsPartlyWritten (outputs net history journal) read.contents after.contents
+
+-- The store counts a write that failed.
+abbrev pub HasStopped : Shown → Shown → List ℕ → List ℕ → Type 0
+HasStopped before after net_file script_file =
+    IsCutShort before after net_file script_file × Rose before.write_faults after.write_faults
+
+-- No failed write was counted.
+abbrev pub HasRunShort : Shown → Shown → List ℕ → List ℕ → Type 0
+HasRunShort before after net_file script_file =
+    IsCutShort before after net_file script_file × (after.write_faults ≡ before.write_faults)
+
+-- From what the store showed then, this line was written to standard output, or a prefix of it where that
+-- write failed; nothing else was written.
+abbrev pub IsReported : Shown → Shown → List ℕ → Type 0
+IsReported after tried report =
+    (after.contents ≡ option_map (with_written output_name report) tried.contents)
+    ⊎ (IsPartWritten output_name report tried.contents after.contents × Rose tried.write_faults after.write_faults)
+
+-- A prefix of this line was written, or nothing, and no failed write was counted.
+abbrev pub IsCutReport : Shown → Shown → List ℕ → Type 0
+IsCutReport after tried report =
+    IsPartWritten output_name report tried.contents after.contents × (after.write_faults ≡ tried.write_faults)
+
+abbrev pub usage_report : List ℕ
+usage_report = codes "usage: mcs run NET, replay NET SCRIPT, check NET, show MODE FILE, load N\n"
+
+abbrev pub description_report : List ℕ
+description_report = codes "description refused: NotYet file\n"
+
+abbrev pub unreadable_report : List ℕ → List ℕ
+unreadable_report name = codes "cannot read " ++ (name ++ codes "\n")
+
+abbrev pub reason_word : Reason → List ℕ
+reason_word Size = codes "SIZE"
+reason_word Text = codes "TEXT"
+reason_word NotYet = codes "NOTYET"
+reason_word NotAllowed = codes "CALL"
+
+abbrev pub script_report : ℕ → Reason → List ℕ
+script_report line reason = codes "script refused: line " ++ (decimal line ++ (codes " " ++ (reason_word reason ++ codes "\n")))
+
+-- The words are no command that is built so far. `Told` says what became of a report from what the store
+-- showed before it, here and below.
+pub record IsUsage (words : List (List ℕ)) (before : Shown) (Told : Shown → List ℕ → Type 0) : Type 0 where
+  pub other : (net_file script_file : List ℕ) → IsReplay words net_file script_file → ⊥
+  pub told : Told before usage_report
+
+-- the bytes are more than a description has, or describe no network
+abbrev pub IsBadDescription : List ℕ → Type 0
+IsBadDescription bytes = (file_limit < length bytes) ⊎ ((net : Net) → Describes bytes net → ⊥)
+
+-- NET was read and is refused.
+pub record IsDescriptionRefused (before : Shown) (Told : Shown → List ℕ → Type 0) (net_file script_file : List ℕ) : Type 0 where
+  pub description : List ℕ
+  pub read : Shown
+  pub is_read : IsRead net_file description before read
+  pub refused : IsBadDescription description
+  pub told : Told read description_report
+
+-- a file was not opened, or a read of it failed
+abbrev pub IsNotRead : Shown → Shown → Type 0
+IsNotRead before after = IsUnopened before after ⊎ IsUnreadable before after
+
+-- NET could not be read.
+pub record IsNetUnread (before : Shown) (Told : Shown → List ℕ → Type 0) (net_file : List ℕ) : Type 0 where
+  pub tried : Shown
+  pub unread : IsNotRead before tried
+  pub told : Told tried (unreadable_report net_file)
+
+-- NET was read, and SCRIPT could not be.
+pub record IsScriptUnread (before : Shown) (Told : Shown → List ℕ → Type 0) (net_file script_file : List ℕ) : Type 0 where
+  pub between : Shown
+  pub net : Net
+  pub net_read : IsNetRead net_file before between net
+  pub tried : Shown
+  pub unread : IsNotRead between tried
+  pub told : Told tried (unreadable_report script_file)
+
+abbrev pub IsFileUnread : Shown → (Shown → List ℕ → Type 0) → List ℕ → List ℕ → Type 0
+IsFileUnread before Told net_file script_file = IsNetUnread before Told net_file ⊎ IsScriptUnread before Told net_file script_file
+
+-- SCRIPT was read and is refused at this line for this reason.
+pub record IsScriptRefused (before : Shown) (Told : Shown → List ℕ → Type 0) (net_file script_file : List ℕ) : Type 0 where
+  pub between : Shown
+  pub net : Net
+  pub net_read : IsNetRead net_file before between net
+  pub script : List ℕ
+  pub read : Shown
+  pub is_read : IsRead script_file script between read
+  pub line : ℕ
+  pub reason : Reason
+  pub refused : IsRefused net script line reason
+  pub told : Told read (script_report line reason)
+
+-- The command is refused, for whatever cause.
+abbrev pub IsRefusedAtAll : List (List ℕ) → Shown → (Shown → List ℕ → Type 0) → Type 0
+IsRefusedAtAll words before Told =
+    IsUsage words before Told
+    ⊎ (OfReplay words (IsDescriptionRefused before Told)
+    ⊎ (OfReplay words (IsFileUnread before Told)
+    ⊎ OfReplay words (IsScriptRefused before Told)))
+
+-- Memory ran out: before anything was written, in the write of a report, or in the writes of the outputs.
+abbrev pub IsOutOfMemory : List (List ℕ) → Shown → Shown → Type 0
+IsOutOfMemory words before after =
+    IsUnwritten before after
+    ⊎ (IsRefusedAtAll words before (IsCutReport after) ⊎ OfReplay words (HasRunShort before after))
+
+abbrev pub is_status : ℕ → Bool
+is_status n = nat_lt n 4 || (n == 5 || (n == 7 || n == 8))

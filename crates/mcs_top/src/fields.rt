@@ -1,0 +1,87 @@
+//! The parts of a line: words, chunks and counted fields.
+ghost use Rattle.std.specs.Prelude.{◌≡◌, ◌↔◌, IsTrue, option_map};
+ghost use Rattle.std.specs.List.{position};
+ghost use Rattle.com_text.specs.Counted.{HasLeadingZero};
+ghost use Rattle.mcs_top.specs.Reading.{behind, is_space, split_word, split_chunk, size_of, whole_counted, end_of};
+
+use com_msg::End;
+use com_text::{number_of, take_counted};
+
+/// The largest size of a RECEIVE.
+const MAX_SIZE: u64 = 2_000;
+
+/// What follows these bytes at the front.
+pub fn behind<'a>(front: &[u8], bytes: &'a [u8]) -> Option<&'a [u8]>
+    ensures { option_map (λ rest. rest.now) result ≡ behind front.now bytes.now }
+{
+    bytes.strip_prefix(front)
+}
+
+/// What stands before the first space, and what stands behind it.
+pub fn split_word(bytes: &[u8]) -> Option<(&[u8], &[u8])>
+    ensures { option_map (λ found. (found.0.now, found.1.now)) result ≡ split_word bytes.now }
+{
+    let space = first_space(bytes)?;
+    Some((&bytes[..space], &bytes[space + 1..]))
+}
+
+/// The first `N` bytes, and what stands behind them and a space.
+pub fn split_chunk<const N: usize>(bytes: &[u8]) -> Option<(&[u8; N], &[u8])>
+    ensures { option_map (λ found. (found.0.now, found.1.now)) result ≡ split_chunk N bytes.now }
+{
+    let (chunk, rest) = bytes.split_first_chunk::<N>()?;
+    let rest = behind(b" ", rest)?;
+    Some((chunk, rest))
+}
+
+/// How the message ends, and what stands behind that word.
+pub fn end_of(bytes: &[u8]) -> Option<(End, &[u8])>
+    ensures { option_map (λ found. (found.0, found.1.now)) result ≡ end_of bytes.now }
+{
+    match behind(b"EMI ", bytes) {
+        Some(rest) => Some((End::Emi, rest)),
+        None => {
+            let rest = behind(b"EGI ", bytes)?;
+            Some((End::Egi, rest))
+        }
+    }
+}
+
+/// The size from 1 to 2,000 that a word writes without a leading zero.
+pub fn size_of(word: &[u8]) -> Option<u32>
+    ensures { result ≡ size_of word.now }
+{
+    if has_leading_zero(word) {
+        return None;
+    }
+    let size = number_of(word)?;
+    if 1 <= size && size <= MAX_SIZE {
+        Some(size as u32)
+    } else {
+        None
+    }
+}
+
+/// The content of the counted field that the bytes are.
+pub fn whole_counted(bytes: &[u8]) -> Option<&[u8]>
+    ensures { option_map (λ content. content.now) result ≡ whole_counted bytes.now }
+{
+    let (from, past) = take_counted(bytes)?;
+    if past == bytes.len() {
+        Some(&bytes[from..])
+    } else {
+        None
+    }
+}
+
+fn first_space(bytes: &[u8]) -> Option<usize>
+    ensures { result ≡ position is_space bytes.now }
+{
+    bytes.iter().position(|byte| *byte == b' ')
+}
+
+fn has_leading_zero(digits: &[u8]) -> bool
+    ensures { IsTrue result ↔ HasLeadingZero digits.now }
+{
+    digits.len() > 1 && digits[0] == b'0'
+}

@@ -1,0 +1,20 @@
+//! The commands of the program.
+#![tactic(auto)]
+
+mod areas;
+mod call_text;
+mod command;
+mod description;
+mod events;
+mod fields;
+mod files;
+mod journal;
+mod net;
+mod outputs;
+mod replay;
+mod script;
+mod segments;
+mod system;
+mod toml_tables;
+
+pub use command::{mcs, tool};
