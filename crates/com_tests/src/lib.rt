@@ -1,0 +1,19 @@
+//! Tests of texts, messages, areas and the outside: each public call with ample memory.
+#![tactic(auto)]
+
+#[cfg(test)]
+mod areas;
+#[cfg(test)]
+mod folders;
+#[cfg(test)]
+mod messages;
+#[cfg(test)]
+mod names;
+#[cfg(test)]
+mod numbers;
+#[cfg(test)]
+mod sources;
+#[cfg(test)]
+mod stores;
+#[cfg(test)]
+mod texts;
