@@ -1,0 +1,15 @@
+//! Tests of the commands, over files in memory.
+#![tactic(auto)]
+
+#[cfg(test)]
+mod lines;
+#[cfg(test)]
+mod reports;
+#[cfg(test)]
+mod rows;
+#[cfg(test)]
+mod runs;
+#[cfg(test)]
+mod sizes;
+#[cfg(test)]
+mod writes;
