@@ -33,6 +33,7 @@ width_of EndKey = 1
 width_of Status = 2
 width_of Count = 6
 
+-- 87 characters of a text
 pub record IsInputArea (bytes : List ℕ) : Type 0 where
   pub length : length bytes ≡ 87
   pub text : IsText bytes
@@ -43,8 +44,10 @@ in_field field area = slice_range area (start_of field) (start_of field + width_
 
 -- the area with these characters in a field, and all others as before
 abbrev pub set_in : InField → List ℕ → List ℕ → List ℕ
-set_in field area value = take (start_of field) area ++ value ++ drop (start_of field + width_of field) area
+set_in field area value =
+    take (start_of field) area ++ value ++ drop (start_of field + width_of field) area
 
+-- so many digits 0
 abbrev pub zeros : ℕ → List ℕ
 zeros n = replicate n 48
 

@@ -1,3 +1,5 @@
 pub mod InputArea
+pub mod Designation
+pub mod Status
 pub use Rattle.com_text.specs.Name
 pub use Rattle.com_text.specs.Text

@@ -1,15 +1,18 @@
 //! The area of an input CD.
-ghost use Rattle.std.specs.Prelude.{◌≡◌, ◌↔◌, length, IsSome, IfSome};
+ghost use Rattle.std.specs.Prelude.{◌≡◌, ◌↔◌, ℕ, List, length, IsSome, IfSome};
 ghost use Rattle.com_text.specs.Text.{IsText};
 ghost use Rattle.com_cd.specs.InputArea.{IsInputArea, in_field, set_in, width_of, start_of, opening_area};
+ghost use Rattle.com_cd.specs.Designation.{Designates};
 
-use com_text::is_text;
+use crate::designation::{NAMES_LENGTH, path_in};
+use crate::{Designation, STATUS_LENGTH};
+use com_text::{FIELD_LENGTH, is_text};
 use std::marker::Model;
 
 /// How many characters an input area has.
 pub const IN_AREA_LENGTH: usize = 87;
 
-/// The fields of an input area, in their order (CD entry, format 1).
+/// The fields of an input area, in their order.
 #[derive(Clone, Copy, Debug, PartialEq, Eq)]
 pub enum InField {
     /// SYMBOLIC QUEUE, 12 characters.
@@ -37,6 +40,7 @@ pub enum InField {
 }
 
 impl InField {
+    /// Where the field begins, counted from 0.
     const fn start(self) -> usize
         ensures { result ≡ start_of self }
     {
@@ -60,12 +64,14 @@ impl InField {
         ensures { result ≡ width_of self }
     {
         match self {
-            InField::Queue | InField::Sub1 | InField::Sub2 | InField::Sub3 | InField::Source => 12,
+            InField::Queue | InField::Sub1 | InField::Sub2 | InField::Sub3 | InField::Source => {
+                FIELD_LENGTH
+            }
             InField::Date | InField::Count => 6,
             InField::Time => 8,
             InField::Length => 4,
             InField::EndKey => 1,
-            InField::Status => 2,
+            InField::Status => STATUS_LENGTH,
         }
     }
 }
@@ -95,8 +101,9 @@ impl InArea {
         ensures { result ≡ opening_area }
     {
         let mut bytes = [b'0'; IN_AREA_LENGTH];
-        bytes[..48].fill(b' ');
-        bytes[62..74].fill(b' ');
+        bytes[..NAMES_LENGTH].fill(b' ');
+        let source = InField::Source.start();
+        bytes[source..source + FIELD_LENGTH].fill(b' ');
         InArea { bytes }
     }
 
@@ -114,6 +121,7 @@ impl InArea {
         Some(InArea { bytes: area })
     }
 
+    /// The 87 characters.
     pub fn as_bytes(&self) -> &[u8]
         ensures characters { result.now ≡ self.now }
         ensures valid { IsInputArea self.now }
@@ -127,6 +135,21 @@ impl InArea {
     {
         let start = field.start();
         &self.bytes[start..start + field.width()]
+    }
+
+    /// The path that the four name fields designate. They are malformed exactly where SYMBOLIC
+    /// QUEUE holds no name, a level below it holds neither spaces nor a name, or a name follows a
+    /// level of spaces.
+    pub fn designation(&self) -> Designation
+        ensures path { (path : List (List ℕ)) → (result ≡ Designation.Path path)
+            ↔ Designates self.now path }
+        ensures malformed { (result ≡ Designation.Malformed)
+            ↔ ((path : List (List ℕ)) → Designates self.now path → ⊥) }
+    {
+        match path_in(&self.bytes) {
+            Some(path) => Designation::Path(path),
+            None => Designation::Malformed,
+        }
     }
 
     /// Writes one field, and leaves all other characters as they were.

@@ -1,6 +1,10 @@
 //! The areas of CD entries, by which programs and the message control system speak to each other.
 #![tactic(auto)]
 
+mod designation;
 mod input_area;
+mod status;
 
+pub use designation::Designation;
 pub use input_area::{IN_AREA_LENGTH, InArea, InField};
+pub use status::{STATUS_LENGTH, Status};

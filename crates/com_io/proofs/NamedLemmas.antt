@@ -12,7 +12,7 @@ use Rattle.std.proofs.lemmas.Cmp.{nat_list_cmp_total, eq_by_cmp_equiv}
 use Rattle.std.proofs.lemmas.Map.Text.{btree_map_updates_text, is_eq-slice_cmp}
 use Rattle.std.specs.declared.string.String.{String}
 use Rattle.std.specs.declared.vec.Vec.{Vec}
-use Rattle.com_io.specs.Named.{named}
+use Rattle.com_io.specs.Named.{lists_by_name}
 
 module _ {X : Type 0} (m : FinMap (slice_cmp nat_cmp) X) where
   -- a map that has the same at each name is this one
@@ -41,30 +41,30 @@ module _ {X Y Z : Type 0} where
       ]
 
   -- what a name has
-  pub get-named : (m : BTreeMap (String Y) (Vec X Z)) (q : List ℕ) → get (named m.entries) q ≡ option_map (λ v. v.items) (get_by_text m q)
+  pub get-named : (m : BTreeMap (String Y) (Vec X Z)) (q : List ℕ) → get (lists_by_name m.entries) q ≡ option_map (λ v. v.items) (get_by_text m q)
   get-named m q = get-from_entries nat_list_cmp_total _ q ∙ find-entries m.entries q
 
   module _ (m n : BTreeMap (String Y) (Vec X Z)) (q : List ℕ) (v : Vec X Z) (h : UpdatesBy string_cmp (λ k. slice_cmp nat_cmp q (string_bytes k)) m n (Some v)) where
     -- the name has the new list, and each other name what it had
-    named-updates : named n.entries ≡ insert (named m.entries) q v.items
+    named-updates : lists_by_name n.entries ≡ insert (lists_by_name m.entries) q v.items
     named-updates = same_named _ _ (λ cs. get-named n cs
         ∙ ap (option_map (λ v. v.items)) (btree_map_updates_text q m n (Some v) h cs)
         ∙ option_map-cond (bytes_eq q cs) v (get_by_text m cs)
         ∙ ap (λ b. cond b (Some v.items) (option_map (λ v. v.items) (get_by_text m cs))) (sym (is_eq-slice_cmp q cs) ∙ (eq_by_cmp_equiv nat_list_cmp_total).symm q cs)
         ∙ ap (cond (eq_by_cmp (slice_cmp nat_cmp) cs q) (Some v.items)) (sym (get-named m cs))
-        ∙ sym (get-insert nat_list_cmp_total (named m.entries) q v.items cs))
+        ∙ sym (get-insert nat_list_cmp_total (lists_by_name m.entries) q v.items cs))
 
-    pub named-inserts : (ys : List X) → v.items ≡ ys → named n.entries ≡ insert (named m.entries) q ys
-    named-inserts ys e = named-updates ∙ ap (insert (named m.entries) q) e
+    pub named-inserts : (ys : List X) → v.items ≡ ys → lists_by_name n.entries ≡ insert (lists_by_name m.entries) q ys
+    named-inserts ys e = named-updates ∙ ap (insert (lists_by_name m.entries) q) e
 
     module _ (w : Vec X Z) (had : get_by_text m q ≡ Some w) where
-      named-had : get (named m.entries) q ≡ Some w.items
+      named-had : get (lists_by_name m.entries) q ≡ Some w.items
       named-had = get-named m q ∙ ap (option_map (λ v. v.items)) had
 
       -- the name's list has grown
-      pub named-appends : (ys : List X) → v.items ≡ w.items ++ ys → named n.entries ≡ insert (named m.entries) q (unwrap_or (get (named m.entries) q) [] ++ ys)
+      pub named-appends : (ys : List X) → v.items ≡ w.items ++ ys → lists_by_name n.entries ≡ insert (lists_by_name m.entries) q (unwrap_or (get (lists_by_name m.entries) q) [] ++ ys)
       named-appends ys e = named-inserts _ (e ∙ ap (λ o. unwrap_or o [] ++ ys) (sym named-had))
 
       -- the name's list stays
-      pub named-stays : v.items ≡ w.items → named n.entries ≡ named m.entries
+      pub named-stays : v.items ≡ w.items → lists_by_name n.entries ≡ lists_by_name m.entries
       named-stays e = named-inserts _ e ∙ insert_same _ q w.items named-had

@@ -10,20 +10,30 @@ abbrev pub named_code : Coded Named
 named_code = map.code (coded_list coded_ℕ) (coded_list coded_ℕ)
 
 abbrev pub closing_code : Coded Closing
-closing_code = code_by (ℕ × Bool) (coded× coded_ℕ coded_bool) (λ c. (c.left, c.failed)) (λ p. record { left = p.0; failed = p.1 }) (λ _. refl)
+closing_code =
+    code_by (ℕ × Bool) (coded× coded_ℕ coded_bool) (λ c. (c.left, c.failed))
+    (λ p. record { left = p.0; failed = p.1 }) (λ _. refl)
 
 abbrev pub contents_code : Coded Contents
-contents_code = code_by (Named × (Named × List Closing)) (coded× named_code (coded× named_code (coded_list closing_code))) (λ c. (c.files, (c.outs, c.closed))) (λ p. record { files = p.0; outs = p.1.0; closed = p.1.1 }) (λ _. refl)
+contents_code =
+    code_by (Named × (Named × List Closing))
+    (coded× named_code (coded× named_code (coded_list closing_code)))
+    (λ c. (c.files, (c.outs, c.closed)))
+    (λ p. record { files = p.0; outs = p.1.0; closed = p.1.1 }) (λ _. refl)
 
 abbrev pub failing_write_code : Coded FailingWrite
-failing_write_code = code_by (ℕ × ℕ) (coded× coded_ℕ coded_ℕ) (λ f. (f.number, f.keep)) (λ p. record { number = p.0; keep = p.1 }) (λ _. refl)
+failing_write_code =
+    code_by (ℕ × ℕ) (coded× coded_ℕ coded_ℕ) (λ f. (f.number, f.keep))
+    (λ p. record { number = p.0; keep = p.1 }) (λ _. refl)
 
 -- the six counts
 abbrev Counts : Type 0
 Counts = ℕ × (ℕ × (ℕ × (ℕ × (ℕ × ℕ))))
 
 abbrev counts_code : Coded Counts
-counts_code = coded× coded_ℕ (coded× coded_ℕ (coded× coded_ℕ (coded× coded_ℕ (coded× coded_ℕ coded_ℕ))))
+counts_code =
+    coded× coded_ℕ
+    (coded× coded_ℕ (coded× coded_ℕ (coded× coded_ℕ (coded× coded_ℕ coded_ℕ))))
 
 abbrev counts_of : Shelf → Counts
 counts_of s = (s.pending, (s.opens, (s.writes, (s.open_faults, (s.read_faults, s.write_faults)))))
@@ -53,4 +63,8 @@ shelf_of held n f = record {
 }
 
 abbrev pub shelf_code : Coded Shelf
-shelf_code = code_by (Contents × (Counts × Failures)) (coded× contents_code (coded× counts_code failures_code)) (λ s. (s.held, (counts_of s, failures_of s))) (λ p. shelf_of p.0 p.1.0 p.1.1) (λ _. refl)
+shelf_code =
+    code_by (Contents × (Counts × Failures))
+    (coded× contents_code (coded× counts_code failures_code))
+    (λ s. (s.held, (counts_of s, failures_of s)))
+    (λ p. shelf_of p.0 p.1.0 p.1.1) (λ _. refl)

@@ -4,12 +4,12 @@ use Rattle.std.specs.FinMap as map
 use Rattle.com_io.specs.declared.store.StoreFault.{StoreFault}
 use Rattle.com_io.specs.declared.store.StoreFault.TheVariants.{Failed, Memory}
 use Rattle.com_io.specs.declared.memory_store.FailingWrite.{FailingWrite}
-use Rattle.com_io.specs.Listed.{counted, is_next_listed}
+use Rattle.com_io.specs.Listed.{next_count, is_next_listed}
 use Rattle.com_io.specs.Reading.{Reading}
-use Rattle.com_io.specs.Stores.{Named, Contents, closing_of, with_closing, with_written}
+use Rattle.com_io.specs.Stores.{Named, Contents, closing_of, with_closing, with_output}
 
--- what it holds, how many of its sources are open, how often it was called and a call has failed, and
--- which calls fail: openings and writes by number, and reads by number for each file's name
+-- what it holds, how many of its sources are open, how often it was called and a call has failed,
+-- and which calls fail: openings and writes by number, and reads by number for each file's name
 pub record Shelf : Type 0 where
   pub held : Contents
   pub pending : ℕ
@@ -39,7 +39,8 @@ empty_shelf = record {
 
 -- a file of this name can be opened
 abbrev pub with_file : List ℕ → List ℕ → Shelf → Shelf
-with_file name bytes s = record s { held = record s.held { files = map.insert s.held.files name bytes } }
+with_file name bytes s =
+    record s { held = record s.held { files = map.insert s.held.files name bytes } }
 
 -- the k-th opening fails
 abbrev pub with_failing_open : ℕ → Shelf → Shelf
@@ -47,22 +48,29 @@ with_failing_open k s = record s { failing_opens = s.failing_opens ++ k ∷ [] }
 
 -- the k-th write fails, after so many of its bytes
 abbrev pub with_failing_write : ℕ → ℕ → Shelf → Shelf
-with_failing_write k keep s = record s { failing_writes = s.failing_writes ++ record { number = k; keep = keep } ∷ [] }
+with_failing_write k keep s =
+    record s { failing_writes = s.failing_writes ++ record { number = k; keep = keep } ∷ [] }
 
 -- the k-th read of each source of this name fails
 abbrev pub with_failing_read : List ℕ → ℕ → Shelf → Shelf
-with_failing_read name k s = record s { failing_reads = map.insert s.failing_reads name (unwrap_or (map.get s.failing_reads name) [] ++ k ∷ []) }
+with_failing_read name k s = record s {
+  failing_reads =
+      map.insert s.failing_reads name (unwrap_or (map.get s.failing_reads name) [] ++ k ∷ []);
+}
 
 -- an opening fails where it is listed, or where there is no such file
 abbrev pub is_failing_open : List ℕ → Shelf → Bool
-is_failing_open name s = is_next_listed s.opens s.failing_opens || is_none (map.get s.held.files name)
+is_failing_open name s =
+    is_next_listed s.opens s.failing_opens || is_none (map.get s.held.files name)
 
 abbrev pub after_open : {S : Type 0} → Result S StoreFault → Shelf → Shelf
-after_open (Ok _) s = record s { opens = counted s.opens; pending = s.pending + 1 }
-after_open (Err Failed) s = record s { opens = counted s.opens; open_faults = counted s.open_faults }
-after_open (Err Memory) s = record s { opens = counted s.opens }
+after_open (Ok _) s = record s { opens = next_count s.opens; pending = s.pending + 1 }
+after_open (Err Failed) s =
+    record s { opens = next_count s.opens; open_faults = next_count s.open_faults }
+after_open (Err Memory) s = record s { opens = next_count s.opens }
 
--- The source has the bytes of the file of this name. Its failing reads are those that are listed for the name.
+-- The source has the bytes of the file of this name. Its failing reads are those that are listed
+-- for the name.
 pub record IsNewReading (name : List ℕ) (s : Shelf) (source : Reading) : Type 0 where
   pub bytes : map.get s.held.files name ≡ Some source.left
   pub unread : source.reads ≡ 0
@@ -73,18 +81,20 @@ abbrev pub after_close : Reading → Shelf → Shelf
 after_close r s = record s {
   held = with_closing (closing_of (Some r.left) r.faults) s.held;
   pending = s.pending - 1;
-  read_faults = if nat_lt 0 r.faults then counted s.read_faults else s.read_faults;
+  read_faults = if nat_lt 0 r.faults then next_count s.read_faults else s.read_faults;
 }
 
 -- how many bytes the next write writes before it fails, if it is listed
-abbrev pub kept_by_next : Shelf → Option ℕ
-kept_by_next s = option_map (λ f. f.keep) (find (λ f. f.number == counted s.writes) s.failing_writes)
+abbrev pub next_keep : Shelf → Option ℕ
+next_keep s =
+    option_map (λ f. f.keep) (find (λ f. f.number == next_count s.writes) s.failing_writes)
 
 abbrev pub after_write : {T : Type 0} → List ℕ → List ℕ → Result T StoreFault → Shelf → Shelf
-after_write name bytes (Ok _) s = record s { writes = counted s.writes; held = with_written name bytes s.held }
+after_write name bytes (Ok _) s =
+    record s { writes = next_count s.writes; held = with_output name bytes s.held }
 after_write name bytes (Err Failed) s = record s {
-  writes = counted s.writes;
-  write_faults = counted s.write_faults;
-  held = with_written name (take (unwrap_or (kept_by_next s) 0) bytes) s.held;
+  writes = next_count s.writes;
+  write_faults = next_count s.write_faults;
+  held = with_output name (take (unwrap_or (next_keep s) 0) bytes) s.held;
 }
-after_write name bytes (Err Memory) s = record s { writes = counted s.writes }
+after_write name bytes (Err Memory) s = record s { writes = next_count s.writes }

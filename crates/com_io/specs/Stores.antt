@@ -27,19 +27,23 @@ pub record Shown : Type 0 where
   pub contents : Option Contents
   -- how many sources are open
   pub pending : ℕ
-  -- how often an opening has failed, how many closed sources had failed, and how often a writing has failed
+  -- how often an opening has failed, how many closed sources had failed, and how often a writing
+  -- has failed
   pub open_faults : ℕ
   pub read_faults : ℕ
   pub write_faults : ℕ
 
--- The source has the bytes of the file of this name, and has not failed. A missing file is not opened.
-pub record IsOpened (held : Option Contents) (name : List ℕ) (left : Option (List ℕ)) (faults : ℕ) : Type 0 where
+-- The source has the bytes of the file of this name, and has not failed. A missing file is not
+-- opened.
+pub record IsOpened (held : Option Contents) (name : List ℕ) (left : Option (List ℕ))
+    (faults : ℕ) : Type 0 where
   pub bytes : IfSome held (λ c. (left ≡ map.get c.files name) × IsSome left)
   pub unfailed : faults ≡ 0
 
 -- of a source that does not tell what it has left, the number is 0
 abbrev pub closing_of : Option (List ℕ) → ℕ → Closing
-closing_of left faults = record { left = unwrap_or (option_map length left) 0; failed = nat_lt 0 faults }
+closing_of left faults =
+    record { left = unwrap_or (option_map length left) 0; failed = nat_lt 0 faults }
 
 -- one more source is closed
 abbrev pub with_closing : Closing → Contents → Contents
@@ -51,16 +55,19 @@ pub record CountsClosing (faults before now : ℕ) : Type 0 where
   pub rose : 0 < faults → Rose before now
   pub kept : faults ≡ 0 → now ≡ before
 
--- what was written to standard output, which has this name, grows at its end; any other content is replaced
-abbrev pub written : List ℕ → List ℕ → Named → Named
-written name bytes outs =
-    if bytes_eq name (codes "-") then map.insert outs name (unwrap_or (map.get outs name) [] ++ bytes)
+-- what was written to standard output, whose name is `-`, grows at its end; any other content is
+-- replaced
+abbrev pub outs_with_output : List ℕ → List ℕ → Named → Named
+outs_with_output name bytes outs =
+    if bytes_eq name (codes "-")
+    then map.insert outs name (unwrap_or (map.get outs name) [] ++ bytes)
     else map.insert outs name bytes
 
-abbrev pub with_written : List ℕ → List ℕ → Contents → Contents
-with_written name bytes c = record c { outs = written name bytes c.outs }
+-- the contents with these bytes written under this name
+abbrev pub with_output : List ℕ → List ℕ → Contents → Contents
+with_output name bytes c = record c { outs = outs_with_output name bytes c.outs }
 
 -- a prefix of the bytes was written, or nothing
 abbrev pub IsPartWritten : List ℕ → List ℕ → Option Contents → Option Contents → Type 0
 IsPartWritten name bytes before after =
-    (after ≡ before) ⊎ ((n : ℕ) × (after ≡ option_map (with_written name (take n bytes)) before))
+    (after ≡ before) ⊎ ((n : ℕ) × (after ≡ option_map (with_output name (take n bytes)) before))

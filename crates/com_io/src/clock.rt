@@ -9,6 +9,7 @@ pub trait Clock {
     /// The moments that the clock may say.
     ghost says: { Self → Moment → Type 0 };
 
+    /// The date and time of this moment.
     fn now(&self) -> Stamp
         ensures { says self.now result };
 }
@@ -16,6 +17,7 @@ pub trait Clock {
 /// A clock that stands still, and says its own stamp alone.
 #[derive(Clone, Copy, Debug, PartialEq, Eq)]
 pub struct FixedClock {
+    /// The moment that it always says.
     pub stamp: Stamp,
 }
 

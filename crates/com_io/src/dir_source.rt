@@ -9,6 +9,7 @@ use std::marker::Model;
 #[derive(Drop)]
 pub struct DirSource<F> {
     file: F,
+    /// How often a read has failed.
     faults: u64,
 }
 

@@ -2,7 +2,7 @@
 ghost use Rattle.std.specs.Prelude.{◌≡◌, ◌↔◌, OnOk};
 ghost use Rattle.std.specs.Io.KnownBytes.{Appends};
 ghost use Rattle.std.specs.IoError.{error_kind};
-ghost use Rattle.com_io.specs.Listed.{counted};
+ghost use Rattle.com_io.specs.Listed.{next_count};
 ghost use Rattle.com_io.specs.Folder.{unused_folder};
 
 use crate::{DirSource, Store, StoreFault};
@@ -15,9 +15,13 @@ use std::{fs, io};
 #[derive(Drop)]
 pub struct DirStore<R> {
     rt: R,
+    /// How many sources are open.
     pending: u64,
+    /// How often an opening has failed.
     open_faults: u64,
+    /// How many closed sources had failed.
     read_faults: u64,
+    /// How often a write has failed.
     write_faults: u64,
 }
 
@@ -53,7 +57,7 @@ impl<R> DirStore<R> {
 fn count_fault(error: &io::Error, count: &mut u64) -> StoreFault
     ensures memory { (result ≡ StoreFault.Memory)
         ↔ (error_kind error.now ≡ ErrorKind.OutOfMemory) }
-    ensures failed { result ≡ StoreFault.Failed → count.new ≡ counted count.old }
+    ensures failed { result ≡ StoreFault.Failed → count.new ≡ next_count count.old }
     ensures kept { result ≡ StoreFault.Memory → count.new ≡ count.old }
 {
     if error.kind() == ErrorKind::OutOfMemory {
@@ -98,6 +102,7 @@ where
       write_faults = s.write_faults;
     } };
 
+    /// With `u64::MAX` open sources it answers `Memory`.
     fn open(&mut self, name: &str) -> Result<DirSource<R::File>, StoreFault> {
         if self.pending == u64::MAX {
             return Err(StoreFault::Memory);

@@ -1,6 +1,6 @@
 //! A source in memory, which can be told to fail.
 ghost use Rattle.std.specs.Prelude.{◌≡◌, ◌↔◌, length, take, min, IsTrue, IfOk, IsErr};
-ghost use Rattle.com_io.specs.Reading.{unread, is_failing_read, after_read};
+ghost use Rattle.com_io.specs.Reading.{new_reading, is_failing_read, after_read};
 
 use crate::{Failed, Source};
 use std::marker::Model;
@@ -9,9 +9,13 @@ use std::marker::Model;
 #[derive(Debug, Drop)]
 pub struct MemorySource {
     bytes: Vec<u8>,
+    /// How many of the bytes were read.
     place: usize,
+    /// How often it was read.
     reads: u64,
+    /// How often a read has failed.
     faults: u64,
+    /// The numbers of the reads that fail, from 1.
     failing: Vec<u64>,
 }
 
@@ -32,9 +36,10 @@ impl Model for MemorySource {
 }
 
 impl MemorySource {
-    /// A source of these bytes, whose reads of these numbers fail. The first read has the number 1.
+    /// A source of these bytes, whose reads of these numbers fail. The first read has the number
+    /// 1.
     pub fn new(bytes: Vec<u8>, failing: Vec<u64>) -> Self
-        ensures { result ≡ unread bytes.items failing.items }
+        ensures { result ≡ new_reading bytes.items failing.items }
     {
         MemorySource {
             bytes,

@@ -2,8 +2,8 @@
 ghost use Rattle.std.specs.Prelude.{◌≡◌, ◌≤◌, ◌↔◌, IsSome, IsTrue, IfOk, IfErr, OnOk, OnErr, IsErr, IsErrOf};
 ghost use Rattle.std.specs.Option.{option_copied};
 ghost use Rattle.std.specs.FinMap as finite;
-ghost use Rattle.com_io.specs.Shelf.{empty_shelf, with_file, with_failing_open, with_failing_write, with_failing_read, is_failing_open, after_open, IsNewReading, after_close, kept_by_next, after_write};
-ghost use Rattle.com_io.specs.Stores.{with_written};
+ghost use Rattle.com_io.specs.Shelf.{empty_shelf, with_file, with_failing_open, with_failing_write, with_failing_read, is_failing_open, after_open, IsNewReading, after_close, next_keep, after_write};
+ghost use Rattle.com_io.specs.Stores.{with_output};
 
 use crate::named::Named;
 use crate::{MemorySource, Store, StoreFault};
@@ -13,14 +13,18 @@ use std::marker::Model;
 /// How a source was closed: the bytes that it had left, and whether it had failed.
 #[derive(Clone, Copy, Debug, PartialEq, Eq)]
 struct Closing {
+    /// How many bytes it had left.
     left: usize,
+    /// Whether a read of it had failed.
     failed: bool,
 }
 
 /// A write that fails, by its number, and how many bytes it writes before.
 #[derive(Clone, Copy, Debug, PartialEq, Eq)]
 struct FailingWrite {
+    /// The number of the write, from 1.
     number: u64,
+    /// How many bytes it writes before it fails.
     keep: usize,
 }
 
@@ -28,17 +32,28 @@ struct FailingWrite {
 #[derive(Debug)]
 pub struct MemoryStore {
     alloc: Global,
+    /// The files that can be opened.
     files: Named<u8>,
+    /// What was written.
     outs: Named<u8>,
+    /// Each closing, in order.
     closed: Vec<Closing>,
+    /// How many sources are open.
     pending: usize,
+    /// How often it was asked to open.
     opens: u64,
+    /// How often it was asked to write.
     writes: u64,
+    /// How often an opening has failed.
     open_faults: u64,
+    /// How many closed sources had failed.
     read_faults: u64,
+    /// How often a write has failed.
     write_faults: u64,
+    /// The numbers of the openings that fail, from 1.
     failing_opens: Vec<u64>,
     failing_writes: Vec<FailingWrite>,
+    /// For each name, the numbers of the reads that fail, from 1.
     failing_reads: Named<u64>,
 }
 
@@ -72,7 +87,7 @@ impl Model for MemoryStore {
     ghost invariant = { λ s. s.pending + vec_len s.closed ≤ vec_capacity s.closed };
 }
 
-// By hand, so that a proof has one step for it, where it would have one for each field.
+/// By hand, so that a proof has one step for it, where it would have one for each field.
 impl Drop for MemoryStore {
     fn drop(self) {
         let MemoryStore {
@@ -115,7 +130,8 @@ impl MemoryStore {
         }
     }
 
-    /// Adds a file that can be opened, in place of one of the name.
+    /// Adds a file that can be opened, in place of one of the name. Without memory nothing
+    /// changes.
     pub fn put(&mut self, name: &str, bytes: &[u8]) -> Result<(), AllocError>
         ensures ok { OnOk result (self.new ≡ with_file name.now bytes.now self.old) }
         ensures err { OnErr result (self.new ≡ self.old) }
@@ -123,7 +139,7 @@ impl MemoryStore {
         self.files.insert(self.alloc, name, bytes)
     }
 
-    /// Has the k-th opening fail, counted from 1.
+    /// Has the k-th opening fail, counted from 1. Without memory nothing changes.
     pub fn fail_open(&mut self, k: u64) -> Result<(), AllocError>
         ensures ok { OnOk result (self.new ≡ with_failing_open k self.old) }
         ensures err { OnErr result (self.new ≡ self.old) }
@@ -132,7 +148,8 @@ impl MemoryStore {
         Ok(())
     }
 
-    /// Has the k-th write fail after so many of its bytes. The first listing of a number holds.
+    /// Has the k-th write, counted from 1, fail after so many of its bytes. The first listing of a
+    /// number holds. Without memory nothing changes.
     pub fn fail_write(&mut self, k: u64, keep: usize) -> Result<(), AllocError>
         ensures ok { OnOk result (self.new ≡ with_failing_write k keep self.old) }
         ensures err { OnErr result (self.new ≡ self.old) }
@@ -141,7 +158,8 @@ impl MemoryStore {
         Ok(())
     }
 
-    /// Has the k-th read of each source that is opened under the name fail.
+    /// Has the k-th read, counted from 1, of each source that is opened under the name fail.
+    /// Without memory nothing changes.
     pub fn fail_read(&mut self, name: &str, k: u64) -> Result<(), AllocError>
         ensures ok { OnOk result (self.new ≡ with_failing_read name.now k self.old) }
         ensures err { OnErr result (self.new ≡ self.old) }
@@ -149,7 +167,7 @@ impl MemoryStore {
         self.failing_reads.append(self.alloc, name, &[k])
     }
 
-    /// What was written under the name.
+    /// What was written under the name: None where nothing was.
     pub fn out(&self, name: &str) -> Option<&[u8]>
         ensures { option_copied result ≡ finite.get self.now.held.outs name.now }
     {
@@ -165,8 +183,8 @@ impl MemoryStore {
     }
 
     /// How many bytes the next write writes before it fails, if it does.
-    fn kept_by_next(&self) -> Option<usize>
-        ensures { result ≡ kept_by_next self.now }
+    fn next_keep(&self) -> Option<usize>
+        ensures { result ≡ next_keep self.now }
     {
         let number = self.writes.saturating_add(1);
         let write = self.failing_writes.iter().find(|f| f.number == number)?;
@@ -189,7 +207,7 @@ impl MemoryStore {
     /// Writes out the bytes.
     fn write_out(&mut self, name: &str, bytes: &[u8]) -> Result<(), StoreFault>
         ensures ok { OnOk result (self.new
-            ≡ record self.old { held = with_written name.now bytes.now self.old.held }) }
+            ≡ record self.old { held = with_output name.now bytes.now self.old.held }) }
         ensures err { IfErr result (λ fault. (fault ≡ StoreFault.Memory) × (self.new ≡ self.old)) }
     {
         let written = if name == "-" {
@@ -216,7 +234,8 @@ impl Store for MemoryStore {
 
     /// Fails exactly where it is listed, or where there is no such file.
     fn open(&mut self, name: &str) -> Result<MemorySource, StoreFault>
-        ensures fails { IsErrOf result StoreFault.Failed ↔ IsTrue (is_failing_open name.now self.old) }
+        ensures fails { IsErrOf result StoreFault.Failed
+            ↔ IsTrue (is_failing_open name.now self.old) }
         ensures after { self.new ≡ after_open result self.old }
         ensures opened { IfOk result (IsNewReading name.now self.old) }
     {
@@ -236,6 +255,7 @@ impl Store for MemoryStore {
         Ok(source)
     }
 
+    /// Keeps how the source was closed, and counts it where a read of it had failed.
     fn close(&mut self, source: MemorySource)
         requires { 1 ≤ self.old.pending }
         ensures { self.new ≡ after_close source self.old }
@@ -252,11 +272,11 @@ impl Store for MemoryStore {
 
     /// Fails exactly where it is listed. It has then written the bytes that it keeps.
     fn write(&mut self, name: &str, bytes: &[u8]) -> Result<(), StoreFault>
-        ensures listed { IsSome (kept_by_next self.old) → IsErr result }
-        ensures fails { IsErrOf result StoreFault.Failed → IsSome (kept_by_next self.old) }
+        ensures listed { IsSome (next_keep self.old) → IsErr result }
+        ensures fails { IsErrOf result StoreFault.Failed → IsSome (next_keep self.old) }
         ensures after { self.new ≡ after_write name.now bytes.now result self.old }
     {
-        let kept = self.kept_by_next();
+        let kept = self.next_keep();
         self.writes = self.writes.saturating_add(1);
         let Some(keep) = kept else {
             return self.write_out(name, bytes);

@@ -19,13 +19,13 @@ impl<T> Model for Named<T> {
     ghost use Rattle.std.specs.Cmp.Lexicographic.{slice_cmp};
     ghost use Rattle.std.specs.Coded.{coded_ℕ, coded_list};
     ghost use Rattle.std.specs.FinMap as finite;
-    ghost use Rattle.com_io.specs.Named.{named};
+    ghost use Rattle.com_io.specs.Named.{lists_by_name};
 
     ghost Value = { finite.FinMap (slice_cmp nat_cmp) (List T) };
 
     ghost coded = { finite.code (coded_list coded_ℕ) (coded_list T.code) };
 
-    ghost view = { λ n. named n.lists.entries };
+    ghost view = { λ n. lists_by_name n.lists.entries };
 }
 
 impl<T: Copy> Named<T> {

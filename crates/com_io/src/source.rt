@@ -16,7 +16,7 @@ pub trait Source {
     ghost faults: { Self → ℕ };
 
     /// Reads bytes into the front of `into`, and answers how many: none into a buffer with room
-    /// is the end of the input.
+    /// is the end of the input. A failed read takes no bytes.
     fn read(&mut self, into: &mut [u8]) -> Result<usize, Failed>
         ensures bound { IfOk result (λ n. n ≤ length into.old) }
         ensures bytes { IfOk result (λ n. Takes n into.new (left self.old) (left self.new)) }

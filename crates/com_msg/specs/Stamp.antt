@@ -20,7 +20,9 @@ is_within low high n = nat_le low n && nat_le n high
 
 -- six and eight digits
 abbrev pub has_form : Moment → Bool
-has_form m = ((length m.date == 6 && length m.time == 8) && all_ascii_digits m.date) && all_ascii_digits m.time
+has_form m =
+    ((length m.date == 6 && length m.time == 8) && all_ascii_digits m.date)
+    && all_ascii_digits m.time
 
 -- the month is 01 to 12 and the day 01 to 31
 abbrev pub is_date : List ℕ → Bool
@@ -28,7 +30,9 @@ is_date date = is_within 1 12 (pair_at date 2) && is_within 1 31 (pair_at date 4
 
 -- the hour is at most 23, the minute and the second at most 59
 abbrev pub is_time : List ℕ → Bool
-is_time time = (is_within 0 23 (pair_at time 0) && is_within 0 59 (pair_at time 2)) && is_within 0 59 (pair_at time 4)
+is_time time =
+    (is_within 0 23 (pair_at time 0) && is_within 0 59 (pair_at time 2))
+    && is_within 0 59 (pair_at time 4)
 
 abbrev pub is_moment : Moment → Bool
 is_moment m = has_form m && (is_date m.date && is_time m.time)

@@ -8,14 +8,18 @@ use std::alloc::AllocError;
 /// How a message ends: EMI ends the message, EGI the message and a group of messages.
 #[derive(Clone, Copy, Debug, PartialEq, Eq)]
 pub enum End {
+    /// The end of the message.
     Emi,
+    /// The end of the message and of its group.
     Egi,
 }
 
 /// A message as a terminal's framing finds it: one or more segments and the end.
 #[derive(Debug, Drop)]
 pub struct RawMessage {
+    /// The characters of each segment.
     pub segments: Rows<Text>,
+    /// How it ends.
     pub end: End,
 }
 
@@ -26,13 +30,16 @@ pub struct Message {
     pub source: Name,
     /// Its number among all arrivals, from 1.
     pub arrival: u64,
+    /// When it was recognised as whole.
     pub stamp: Stamp,
+    /// The characters of each segment.
     pub segments: Rows<Text>,
+    /// How it ends.
     pub end: End,
 }
 
 impl RawMessage {
-    /// An equal message.
+    /// An equal message. Err where memory is wanting.
     pub fn copy(&self) -> Result<RawMessage, AllocError>
         ensures { IfOk result (λ message. message ≡ self.now) }
     {
@@ -43,6 +50,7 @@ impl RawMessage {
     }
 }
 
+/// Equal texts in the same order.
 fn copy_texts(texts: &Rows<Text>) -> Result<Rows<Text>, AllocError>
     ensures { IfOk result (λ copies. copies ≡ texts.now) }
 {

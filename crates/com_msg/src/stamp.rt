@@ -64,6 +64,7 @@ impl Stamp {
     }
 }
 
+/// Whether each byte is a digit.
 fn has_digits(bytes: &[u8]) -> bool
     ensures { result ≡ all_ascii_digits bytes.now }
 {
@@ -75,6 +76,7 @@ fn has_digits(bytes: &[u8]) -> bool
     true
 }
 
+/// Whether the month and the day of YYMMDD are within their bounds.
 fn is_date(date: &[u8; 6]) -> bool
     requires { IsTrue (all_ascii_digits date.now) }
     ensures { result ≡ is_date date.now }
@@ -82,6 +84,7 @@ fn is_date(date: &[u8; 6]) -> bool
     is_pair_within(date, 2, 1, 12) && is_pair_within(date, 4, 1, 31)
 }
 
+/// Whether the hour, the minute and the second of HHMMSSTT are within their bounds.
 fn is_time(time: &[u8; 8]) -> bool
     requires { IsTrue (all_ascii_digits time.now) }
     ensures { result ≡ is_time time.now }
@@ -91,7 +94,7 @@ fn is_time(time: &[u8; 8]) -> bool
         && is_pair_within(time, 4, 0, 59)
 }
 
-// Whether the two digits at a place write a number from `low` to `high`.
+/// Whether the two digits at a place write a number from `low` to `high`.
 fn is_pair_within(digits: &[u8], at: usize, low: u64, high: u64) -> bool
     requires within { at + 2 ≤ length digits.now }
     requires digits { IsTrue (all_ascii_digits digits.now) }

@@ -9,7 +9,7 @@ use Rattle.std.proofs.lemmas.List.Quantifiers.{position-Some}
 use Rattle.std.proofs.lemmas.List.{drop_more, take-append-drop, length-take-le, length-drop, append_assoc, append_cancel_left, get_or-take, get_or_append_left, get_or_at, length-append, length-take, take_at, drop_at}
 use Rattle.std.proofs.lemmas.List.Sums.{position_or_len_is}
 use Rattle.std.proofs.lemmas.Str.Parse.{not_in_digits}
-use Rattle.com_text.specs.Counted.{counted, is_colon, IsCountable, HasLeadingZero, StandsAt}
+use Rattle.com_text.specs.Counted.{counted_field, is_colon, IsCountable, HasLeadingZero, StandsAt}
 use Rattle.com_text.specs.Digits.{IsNumber, number}
 use Rattle.com_text.proofs.Numerals.{own_digits, number-lt}
 
@@ -45,29 +45,29 @@ position-first front rest none short =
     rw (place, lt-ltb n (length (take 7 whole)) long) refl
 
 -- a counted field, taken apart
-counted-parts : (content rest : List ℕ) → counted content ++ rest ≡ decimal (length content) ++ 58 ∷ (content ++ rest)
+counted-parts : (content rest : List ℕ) → counted_field content ++ rest ≡ decimal (length content) ++ 58 ∷ (content ++ rest)
 counted-parts content rest = append_assoc (decimal (length content)) (58 ∷ content) rest
 
 -- where bytes begin with a counted field, their first colon stands behind its count
-pub position-counted : (bytes content rest : List ℕ) → IsCountable content → bytes ≡ counted content ++ rest
+pub position-counted : (bytes content rest : List ℕ) → IsCountable content → bytes ≡ counted_field content ++ rest
     → position is_colon (take 7 bytes) ≡ Some (length (decimal (length content)))
 position-counted bytes content rest few e =
     rw (e, counted-parts content rest) (position-first (decimal (length content)) (content ++ rest) (λ k lt. no_colon (length content) k few lt) (length-count (length content) few))
 
 -- and before that colon stands the count
-pub take-counted : (bytes content rest : List ℕ) → bytes ≡ counted content ++ rest
+pub take-counted : (bytes content rest : List ℕ) → bytes ≡ counted_field content ++ rest
     → take (length (decimal (length content))) bytes ≡ decimal (length content)
 take-counted bytes content rest e =
     rw (e, counted-parts content rest) (take_at (decimal (length content)) (58 ∷ (content ++ rest)) _ refl)
 
 -- how long a counted field is, and that bytes which begin with one hold it whole
-pub length-counted : (content : List ℕ) → length (counted content) ≡ length (decimal (length content)) + 1 + length content
+pub length-counted : (content : List ℕ) → length (counted_field content) ≡ length (decimal (length content)) + 1 + length content
 length-counted content = omega (arith, length-append (decimal (length content)) (58 ∷ content))
 
-pub length-le-counted : (bytes content rest : List ℕ) → bytes ≡ counted content ++ rest
+pub length-le-counted : (bytes content rest : List ℕ) → bytes ≡ counted_field content ++ rest
     → length (decimal (length content)) + 1 + length content ≤ length bytes
 length-le-counted bytes content rest e =
-    omega (arith, ap length e, length-append (counted content) rest, length-counted content)
+    omega (arith, ap length e, length-append (counted_field content) rest, length-counted content)
 
 -- at least one and not two is one
 one_byte : (xs : List ℕ) → 1 ≤ length xs → ¬ (2 ≤ length xs) → length xs ≡ 1
@@ -123,11 +123,11 @@ same_tail : {x y : ℕ} {xs ys : List ℕ} → x ∷ xs ≡ y ∷ ys → xs ≡ 
 same_tail e = cc
 
 -- no counted field is the front of another
-pub counted_front : (a b x y : List ℕ) → IsCountable a → IsCountable b → counted a ++ x ≡ counted b ++ y → (a ≡ b) × (x ≡ y)
+pub counted_front : (a b x y : List ℕ) → IsCountable a → IsCountable b → counted_field a ++ x ≡ counted_field b ++ y → (a ≡ b) × (x ≡ y)
 counted_front a b x y few_a few_b e =
     let na = length a in
     let nb = length b in
-    let bytes = counted b ++ y in
+    let bytes = counted_field b ++ y in
     let place : Some (length (decimal na)) ≡ Some (length (decimal nb)) =
     sym (position-counted bytes a x few_a (sym e)) ∙ position-counted bytes b y few_b refl in
     let widths : length (decimal na) ≡ length (decimal nb) = cc in

@@ -63,7 +63,7 @@ prefix_len-field_of : (name : List ℕ) → IsName name → prefix_len is_charac
 prefix_len-field_of name h =
     sym (length-prefix_len is_character (field_of name)) ∙ ap length (before_space-field_of name h)
 
-list_any-spaces : (n : ℕ) → list_any is_character (spaces n) ≡ false
+pub list_any-spaces : (n : ℕ) → list_any is_character (spaces n) ≡ false
 list_any-spaces zero = refl
 list_any-spaces (suc n) = list_any-spaces n
 
@@ -74,7 +74,7 @@ after_name name field h e =
     rw (e, front, drop_at name (spaces (12 - length name)) (length name) refl) (refl, list_any-spaces (12 - length name))
 
 -- characters that only spaces follow are a field of what stands before the spaces
-only_spaces : (xs : List ℕ) → list_any is_character xs ≡ false → xs ≡ spaces (length xs)
+pub only_spaces : (xs : List ℕ) → list_any is_character xs ≡ false → xs ≡ spaces (length xs)
 only_spaces [] h = refl
 only_spaces (x ∷ xs) h =
     let p = or_parts (is_character x) (list_any is_character xs) h in

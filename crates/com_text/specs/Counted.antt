@@ -1,8 +1,8 @@
 -- A counted field: how many bytes it has, in decimal, a colon, and the bytes.
 use Rattle.std.specs.Prelude.{◌≡◌, ℕ, ◌≤◌, List, ◌∷◌, ◌++◌, length, take, slice_range, slice_index, decimal, Bool, ◌==◌}
 
-abbrev pub counted : List ℕ → List ℕ
-counted content = decimal (length content) ++ 58 ∷ content
+abbrev pub counted_field : List ℕ → List ℕ
+counted_field content = decimal (length content) ++ 58 ∷ content
 
 -- a field has at most 999,999 bytes
 abbrev pub IsCountable : List ℕ → Type 0
@@ -15,9 +15,10 @@ is_colon byte = byte == 58
 abbrev pub HasLeadingZero : List ℕ → Type 0
 HasLeadingZero digits = (2 ≤ length digits) × (slice_index digits 0 ≡ 48)
 
--- the front of the bytes is a counted field, whose content stands from one place to before the other
+-- the front of the bytes is a counted field, whose content stands from one place to before the
+-- other
 pub record StandsAt (bytes : List ℕ) (from past : ℕ) : Type 0 where
   pub order : from ≤ past
   pub within : past ≤ length bytes
   pub countable : IsCountable (slice_range bytes from past)
-  pub field : take past bytes ≡ counted (slice_range bytes from past)
+  pub field : take past bytes ≡ counted_field (slice_range bytes from past)

@@ -1,4 +1,5 @@
--- Names of queues, terminals and units, the fields of 12 characters that hold them, and paths of names.
+-- Names of queues, terminals and units, the fields of 12 characters that hold them, and paths of
+-- names.
 use Rattle.std.specs.Prelude.{ℕ, ◌-◌, Bool, IsTrue, not, ◌&&◌, ◌||◌, ◌==◌, nat_le, List, [], ◌∷◌, ◌++◌, length, slice_index, replicate}
 use Rattle.std.specs.List.{list_all, list_any, take_while}
 

@@ -1,7 +1,7 @@
 //! Counted fields: bytes behind their number, so that any byte may stand in them.
 ghost use Rattle.std.specs.Prelude.{◌≡◌, ◌↔◌, ◌≤◌, ◌+◌, ℕ, take, List, ◌++◌, length, decimal, IsTrue, Some, OnOk, OnErr, IfSome};
 ghost use Rattle.std.specs.List.{position};
-ghost use Rattle.com_text.specs.Counted.{counted, is_colon, IsCountable, HasLeadingZero, StandsAt};
+ghost use Rattle.com_text.specs.Counted.{counted_field, is_colon, IsCountable, HasLeadingZero, StandsAt};
 
 use crate::{Rows, number_of};
 use std::alloc::AllocError;
@@ -9,28 +9,29 @@ use std::alloc::AllocError;
 /// How many bytes a counted field has at most.
 pub const MAX_COUNTED: usize = 999_999;
 
-// How many digits the number of a counted field has at most.
+/// How many digits the number of a counted field has at most.
 const COUNT_DIGITS: usize = 6;
 
 /// Adds a counted field at the end. Without memory nothing is added.
 pub fn put_counted(out: &mut Rows<u8>, bytes: &[u8]) -> Result<(), AllocError>
     requires { IsCountable bytes.now }
-    ensures ok { OnOk result (out.new ≡ out.old ++ counted bytes.now) }
+    ensures ok { OnOk result (out.new ≡ out.old ++ counted_field bytes.now) }
     ensures err { OnErr result (out.new ≡ out.old) }
 {
     let mut count = itoa::Buffer::new();
     out.extend_all(count.format(bytes.len()).as_bytes(), b":", bytes)
 }
 
-/// The places of the first byte and past the last byte of the content of the counted field at the
-/// front. None exactly where no front of the bytes is a counted field: its number is missing, begins
-/// with a zero that is not alone, has more than six digits or no colon behind it, or says more bytes
-/// than there are.
+/// The places, from 0, of the first byte and past the last byte of the content of the counted
+/// field at the front. None exactly where no front of the bytes is a counted field: its number is
+/// missing, begins with a zero that is not alone, has more than six digits or no colon behind it,
+/// or says more bytes than there are.
 pub fn take_counted(bytes: &[u8]) -> Option<(usize, usize)>
     ensures found { IfSome result (λ found. StandsAt bytes.now found.0 found.1) }
     // What was put is found, whatever follows it.
-    ensures put { (content rest : List ℕ) → IsCountable content → bytes.now ≡ counted content ++ rest
-        → result ≡ Some (length (decimal (length content)) + 1, length (counted content)) }
+    ensures put { (content rest : List ℕ) → IsCountable content
+        → bytes.now ≡ counted_field content ++ rest
+        → result ≡ Some (length (decimal (length content)) + 1, length (counted_field content)) }
 {
     let colon = colon_in(bytes)?;
     let count = count_of(&bytes[..colon])?;
@@ -41,7 +42,7 @@ pub fn take_counted(bytes: &[u8]) -> Option<(usize, usize)>
     Some((from, from + count))
 }
 
-// The place of the first colon, where it is near enough that a number stands before it.
+/// The place of the first colon, where it is near enough that a number stands before it.
 fn colon_in(bytes: &[u8]) -> Option<usize>
     ensures { result ≡ position is_colon (take 7 bytes.now) }
 {
@@ -51,9 +52,10 @@ fn colon_in(bytes: &[u8]) -> Option<usize>
         .position(|byte| *byte == b':')
 }
 
-// The number of bytes that these digits say, written as a counted field writes it.
+/// The number of bytes that these digits say, written as a counted field writes it.
 fn count_of(digits: &[u8]) -> Option<usize>
-    ensures { (count : ℕ) → (result ≡ Some count) ↔ ((count ≤ 999999) × (digits.now ≡ decimal count)) }
+    ensures { (count : ℕ) → (result ≡ Some count)
+        ↔ ((count ≤ 999999) × (digits.now ≡ decimal count)) }
 {
     if digits.len() > COUNT_DIGITS || has_leading_zero(digits) {
         return None;
@@ -62,6 +64,7 @@ fn count_of(digits: &[u8]) -> Option<usize>
     Some(count as usize)
 }
 
+/// Whether there are more digits than one, and the first is a zero.
 fn has_leading_zero(digits: &[u8]) -> bool
     ensures { IsTrue result ↔ HasLeadingZero digits.now }
 {

@@ -15,6 +15,7 @@ pub const FIELD_LENGTH: usize = 12;
 /// either end. Contracts see its characters.
 #[derive(Clone, Copy, Debug, Eq, Hash)]
 pub struct Name {
+    /// The characters, followed by spaces.
     field: [u8; FIELD_LENGTH],
 }
 
@@ -26,7 +27,8 @@ impl Model for Name {
 
     ghost view = { λ name. before_space name.field };
 
-    ghost invariant = { λ name. IsName (before_space name.field) × (name.field ≡ field_of (before_space name.field)) };
+    ghost invariant = { λ name. IsName (before_space name.field)
+        × (name.field ≡ field_of (before_space name.field)) };
 
     ghost inverse = { λ bytes. record { field = field_of bytes } };
 }
@@ -44,6 +46,7 @@ impl PartialEq for Name {
 /// What a field of 12 characters holds.
 #[derive(Clone, Copy, Debug, PartialEq, Eq)]
 pub enum Field {
+    /// Twelve spaces.
     Spaces,
     /// A name followed by spaces.
     Named(Name),
@@ -65,7 +68,7 @@ impl Name {
         Some(Name { field })
     }
 
-    /// The name followed by spaces.
+    /// The name followed by spaces, 12 characters.
     pub fn field(&self) -> [u8; FIELD_LENGTH]
         ensures field { result ≡ field_of self.now }
         ensures valid { IsName self.now }
@@ -87,7 +90,8 @@ impl Name {
     /// anything but spaces follows, is `Bad`.
     pub fn of_field(field: &[u8; FIELD_LENGTH]) -> Field
         ensures spaces { (result ≡ Field.Spaces) ↔ (field.now ≡ spaces 12) }
-        ensures named { (name : List ℕ) → (result ≡ Field.Named name) ↔ (IsName name × (field.now ≡ field_of name)) }
+        ensures named { (name : List ℕ) → (result ≡ Field.Named name)
+            ↔ (IsName name × (field.now ≡ field_of name)) }
     {
         let (characters, rest) = field.split_at(length_before_space(field));
         if has_character(rest) {
@@ -103,7 +107,7 @@ impl Name {
     }
 }
 
-// How many characters stand before the first space.
+/// How many characters stand before the first space.
 fn length_before_space(field: &[u8; FIELD_LENGTH]) -> usize
     ensures length { result ≡ prefix_len is_character field.now }
     ensures within { result ≤ 12 }
@@ -114,13 +118,14 @@ fn length_before_space(field: &[u8; FIELD_LENGTH]) -> usize
         .unwrap_or(FIELD_LENGTH)
 }
 
-// Whether a byte is no space.
+/// Whether a byte is no space.
 fn has_character(bytes: &[u8]) -> bool
     ensures { result ≡ list_any is_character bytes.now }
 {
     bytes.iter().any(|byte| *byte != b' ')
 }
 
+/// Whether the bytes are a name.
 fn is_name(bytes: &[u8]) -> bool
     ensures { result ≡ is_name bytes.now }
 {
@@ -130,18 +135,21 @@ fn is_name(bytes: &[u8]) -> bool
     has_name_bytes(bytes) && has_letter(bytes) && bytes[0] != b'-' && bytes[bytes.len() - 1] != b'-'
 }
 
+/// Whether each byte may stand in a name.
 fn has_name_bytes(bytes: &[u8]) -> bool
     ensures { result ≡ list_all is_name_byte bytes.now }
 {
     bytes.iter().all(|byte| is_name_byte(*byte))
 }
 
+/// Whether there is a letter among the bytes.
 fn has_letter(bytes: &[u8]) -> bool
     ensures { result ≡ list_any is_letter bytes.now }
 {
     bytes.iter().any(|byte| byte.is_ascii_uppercase())
 }
 
+/// Whether a byte may stand in a name: a letter A to Z, a digit or a hyphen.
 fn is_name_byte(byte: u8) -> bool
     ensures { result ≡ is_name_byte byte }
 {

@@ -13,8 +13,9 @@ pub const MAX_NAMES: usize = 4;
 /// One to four names, from the top of a queue tree down. Contracts see the list of the names.
 #[derive(Clone, Copy, Debug, Eq)]
 pub struct NamePath {
-    // The places past the path repeat its first name.
+    /// The names, and past them the first name again in each place.
     names: [Name; MAX_NAMES],
+    /// How many names the path has, 1 to 4.
     count: usize,
 }
 
@@ -26,7 +27,10 @@ impl Model for NamePath {
 
     ghost view = { λ path. take path.count path.names };
 
-    ghost invariant = { λ path. (1 ≤ path.count) × (path.count ≡ length (take path.count path.names)) × (path.names ≡ filled_path (take path.count path.names)) × (length path.names ≡ 4) };
+    ghost invariant = { λ path. (1 ≤ path.count)
+        × (path.count ≡ length (take path.count path.names))
+        × (path.names ≡ filled_path (take path.count path.names))
+        × (length path.names ≡ 4) };
 
     ghost inverse = { λ names. record { names = filled_path names; count = length names } };
 }
@@ -42,6 +46,7 @@ impl PartialEq for NamePath {
 }
 
 impl NamePath {
+    /// The path of one name.
     pub fn new(first: Name) -> NamePath
         ensures { result ≡ first ∷ [] }
     {
@@ -65,6 +70,7 @@ impl NamePath {
         Some(path)
     }
 
+    /// Its names, one to four, from the top down.
     pub fn names(&self) -> &[Name]
         ensures names { result.now ≡ self.now }
         ensures some { 1 ≤ length self.now }

@@ -26,7 +26,8 @@ impl<T> Rows<T> {
         }
     }
 
-    /// Adds an item at the end. Without memory the list stays as it was, and the item is handed back.
+    /// Adds an item at the end. Without memory the list stays as it was, and the item is handed
+    /// back.
     pub fn push(&mut self, item: T) -> Result<(), (T, AllocError)>
         ensures ok { OnOk result (self.new ≡ self.old ++ item ∷ []) }
         ensures err { OnErr result (self.new ≡ self.old) }
@@ -38,6 +39,7 @@ impl<T> Rows<T> {
         }
     }
 
+    /// The items, in order.
     pub fn as_slice(&self) -> &[T]
         ensures { result.now ≡ self.now }
     {
@@ -56,6 +58,7 @@ impl<T> Rows<T> {
         Rows { items }
     }
 
+    /// The items as a `Vec`, with the room that it has reserved.
     pub fn into_vec(self) -> Vec<T>
         ensures { result.items ≡ self }
     {
@@ -73,7 +76,7 @@ impl Rows<u8> {
         self.items.extend_from_slice(bytes)
     }
 
-    // Adds three parts at the end, or none of them.
+    /// Adds three parts at the end. Without memory nothing is added.
     pub(crate) fn extend_all(
         &mut self,
         first: &[u8],
@@ -92,13 +95,15 @@ impl Rows<u8> {
     }
 }
 
+/// Adds three parts at the end. Without memory some of them may have been added.
 fn add_parts(
     items: &mut Vec<u8>,
     first: &[u8],
     second: &[u8],
     third: &[u8],
 ) -> Result<(), AllocError>
-    ensures ok { OnOk result (items.new.items ≡ items.old.items ++ (first.now ++ (second.now ++ third.now))) }
+    ensures ok { OnOk result (items.new.items
+        ≡ items.old.items ++ (first.now ++ (second.now ++ third.now))) }
     ensures front { take (length items.old.items) items.new.items ≡ items.old.items }
 {
     items.extend_from_slice(first)?;

@@ -26,16 +26,19 @@ pub enum TextError {
     /// `at` is the place, from 0, of the first byte outside 20 to 7E hexadecimal.
     #[error("the byte at {at} is no character of a text")]
     BadByte { at: usize },
-    #[error("out of memory")]
+    /// Memory ran out.
+    #[error("memory ran out")]
     Memory(AllocError),
 }
 
 impl Text {
-    /// A copy of the bytes, where each is a character of a text.
+    /// A copy of the bytes, where each is a character of a text. Else an error names the first byte
+    /// that is none, or says that memory ran out.
     pub fn read(alloc: Global, bytes: &[u8]) -> Result<Text, TextError>
         ensures ok { IfOk result (λ text. text ≡ bytes.now) }
         ensures only_texts { IfOk result (λ text. IsText text) }
-        ensures bad_byte { (at : ℕ) → result ≡ Err (TextError.BadByte at) → IsFirstBadByte bytes.now at }
+        ensures bad_byte { (at : ℕ) → result ≡ Err (TextError.BadByte at)
+            → IsFirstBadByte bytes.now at }
     {
         if let Some(at) = first_bad_byte(bytes) {
             return Err(TextError::BadByte { at });
@@ -52,6 +55,7 @@ impl Text {
         Text { bytes }
     }
 
+    /// The characters, in order.
     pub fn as_bytes(&self) -> &[u8]
         ensures same { result.now ≡ self.now }
         ensures text { IsText self.now }
@@ -59,6 +63,7 @@ impl Text {
         self.bytes.as_slice()
     }
 
+    /// A second text of the same characters. An error says that memory ran out.
     pub fn copy(&self) -> Result<Text, AllocError>
         ensures { IfOk result (λ text. text ≡ self.now) }
     {
@@ -67,6 +72,7 @@ impl Text {
     }
 }
 
+/// The place, from 0, of the first byte that is no character of a text: None where each is one.
 fn first_bad_byte(bytes: &[u8]) -> Option<usize>
     ensures { MatchOption result (IsText bytes.now) (IsFirstBadByte bytes.now) }
 {
@@ -82,7 +88,7 @@ fn first_bad_byte(bytes: &[u8]) -> Option<usize>
 pub fn is_text_byte(byte: u8) -> bool
     ensures { result ≡ is_text_byte byte }
 {
-    0x20 <= byte && byte <= 0x7E
+    matches!(byte, 0x20..=0x7E)
 }
 
 /// Whether each byte is a character of a text.

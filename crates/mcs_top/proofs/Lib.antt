@@ -3,9 +3,11 @@ mod Chunks
 mod Documents
 mod LineParts
 mod Lines
+mod Names
 mod Outs
 mod Performance
 mod ScriptLines
+mod SegmentLists
 mod Steps
 mod Replays
 mod Commands

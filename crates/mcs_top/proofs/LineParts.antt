@@ -1,7 +1,7 @@
 -- The parts of a line: each is read just where it stands.
-use Rattle.std.proofs.Common.{◌≡◌, ℕ, zero, suc, ◌+◌, ◌<◌, ◌≤◌, ◌^◌, true, false, ◌&&◌, None, Some, Option, List, [], ◌∷◌, ◌++◌, length, get_or, take, drop, refl, sym, ap, ◌∙◌, inl, inr, option_map, nat_lt, nat_le, nat_eq, arith}
+use Rattle.std.proofs.Common.{◌≡◌, ℕ, zero, suc, ◌+◌, ◌<◌, ◌≤◌, ◌^◌, Bool, true, false, ◌&&◌, None, Some, Option, List, [], ◌∷◌, ◌++◌, length, map, get_or, take, drop, refl, sym, ap, ◌∙◌, subst, inl, inr, option_map, nat_lt, nat_le, nat_eq, cond, arith, append_assoc}
 use Rattle.std.specs.Prelude.{◌==◌, decimal, codes, slice_range}
-use Rattle.std.specs.List.{list_all, position, after_first, starts_with}
+use Rattle.std.specs.List.{list_all, position, position_or_len, after_first, starts_with}
 use Rattle.std.specs.Str.{bytes_eq}
 use Rattle.std.proofs.lemmas.Bool.{and_from, and_parts, false_from_ne_true, cases_Bool, cases_lt, eqb-true, le-leb, le-ltb, lt-ltb, leb-true, ne_eqb, cond-true, cond-false}
 use Rattle.std.proofs.lemmas.Fmt.{digits_decimal, digits_value-decimal, decimal-digits_value}
@@ -13,16 +13,19 @@ use Rattle.std.proofs.lemmas.Str.Parse.{not_in_digits}
 use Rattle.std.proofs.Math.Seq.{drop-append-add, drop-append_seam}
 use Rattle.std.proofs.lemmas.Slice.Eq.{bytes_eq-Decides, starts_is}
 use Rattle.std.proofs.lemmas.Bool.Decides.{Decides-eqb, nat_tests}
-use Rattle.com_text.specs.Counted.{counted, is_colon, IsCountable, HasLeadingZero, StandsAt}
+use Rattle.com_text.specs.Counted.{counted_field, is_colon, IsCountable, HasLeadingZero, StandsAt}
 use Rattle.std.specs.Int.{IsInRange}
 use Rattle.com_text.specs.Name.{IsName, is_name_byte}
 use Rattle.com_text.specs.Digits.{IsNumber, number}
 use Rattle.com_text.proofs.Numerals.{own_digits}
 use Rattle.com_text.proofs.CountedFields.{IsCount, IsCount-decimal}
-use Rattle.mcs_top.specs.Reading.{behind, is_space, split_word, split_chunk, end_of, size_of, whole_counted}
-use Rattle.mcs_top.specs.Journal.{end_word}
+use Rattle.mcs_top.specs.Reading.{behind, is_space, split_word, until_space, split_chunk, kind_of, end_of, number_up_to, whole_counted, split_counted}
+use Rattle.mcs_top.specs.Journal.{fields, end_word, kind_word}
+use Rattle.mcs_top.specs.Writing.{segment_fields}
 use Rattle.com_msg.specs.declared.message.End.{End}
 use Rattle.com_msg.specs.declared.message.End.TheVariants.{Emi, Egi}
+use Rattle.com_msg.specs.declared.rest.Kind.{Kind}
+use Rattle.com_msg.specs.declared.rest.Kind.TheVariants.{Message, Segment}
 
 -- what an option held that was mapped to this
 pub option_map-Some : {A B : Type 0} (f : A → B) (o : Option A) (y : B) → option_map f o ≡ Some y → (x : A) × (o ≡ Some x) × (f x ≡ y)
@@ -36,100 +39,108 @@ eq-bytes_eq xs ys e = (bytes_eq-Decides xs ys).1 e
 pub bytes_eq-true : (xs ys : List ℕ) → bytes_eq xs ys ≡ true → xs ≡ ys
 bytes_eq-true xs ys e = (bytes_eq-Decides xs ys).0 e
 
--- the word writes a size
-pub record IsSize (word : List ℕ) (size : ℕ) : Type 0 where
-  pub least : 1 ≤ size
-  pub most : size ≤ 2000
-  pub digits : word ≡ decimal size
+-- what a reader under a test found, where the test passes
+pub if-Some : {A : Type 0} (b : Bool) (o : Option A) (y : A) → cond b o None ≡ Some y → (b ≡ true) × (o ≡ Some y)
+if-Some true o y h = (refl, h)
+if-Some false o y h = absurd (none-some y h)
 
--- the number of a size's digits is the size
-number_of_size : (word : List ℕ) (size : ℕ) → IsSize word size → number word ≡ size
-number_of_size word size h =
-    let fits : size < 2 ^ 64 = omega arith in
-    rw h.digits (digits_value-decimal own_digits size fits)
+-- what cannot be found is none
+pub None-of : {A : Type 0} (o : Option A) → ((x : A) → o ≡ Some x → ⊥) → None ≡ o
+None-of None h = refl
+None-of (Some x) h = absurd (h x refl)
 
--- a word that writes a size is read as it, and no other word
-pub size_of-size : (word : List ℕ) (size : ℕ) → IsSize word size → size_of word ≡ Some size
-size_of-size word size h =
-    let e = number_of_size word size h in
-    let passes : ((nat_le 1 size && nat_le size 2000) && bytes_eq word (decimal size)) ≡ true =
-    and_from _ _ (and_from _ _ (le-leb 1 size h.least) (le-leb size 2000 h.most)) (eq-bytes_eq _ _ h.digits) in
+-- the word writes a number from 1 up to a limit
+pub record IsUpTo (limit : ℕ) (word : List ℕ) (n : ℕ) : Type 0 where
+  pub least : 1 ≤ n
+  pub most : n ≤ limit
+  pub digits : word ≡ decimal n
+
+-- the number of a number's digits is the number
+number_of_word : (limit : ℕ) (word : List ℕ) (n : ℕ) → limit ≤ 9999 → IsUpTo limit word n → number word ≡ n
+number_of_word limit word n small h =
+    let fits : n < 2 ^ 64 = omega (arith, small, h.most) in
+    rw h.digits (digits_value-decimal own_digits n fits)
+
+-- a word that writes such a number is read as it, and no other word
+pub number_up_to-word : (limit : ℕ) (word : List ℕ) (n : ℕ) → limit ≤ 9999 → IsUpTo limit word n → number_up_to limit word ≡ Some n
+number_up_to-word limit word n small h =
+    let e = number_of_word limit word n small h in
+    let passes : ((nat_le 1 n && nat_le n limit) && bytes_eq word (decimal n)) ≡ true =
+    and_from _ _ (and_from _ _ (le-leb 1 n h.least) (le-leb n limit h.most)) (eq-bytes_eq _ _ h.digits) in
     rw (e, passes) refl
 
-pub IsSize-size_of : (word : List ℕ) (size : ℕ) → size_of word ≡ Some size → IsSize word size
-IsSize-size_of word size h =
-    let n = number word in
-    let p = cond_some ((nat_le 1 n && nat_le n 2000) && bytes_eq word (decimal n)) n size h in
-    let bounds_digits = and_parts (nat_le 1 n && nat_le n 2000) (bytes_eq word (decimal n)) p.0 in
-    let bounds = and_parts (nat_le 1 n) (nat_le n 2000) bounds_digits.0 in
+pub IsUpTo-number_up_to : (limit : ℕ) (word : List ℕ) (n : ℕ) → number_up_to limit word ≡ Some n → IsUpTo limit word n
+IsUpTo-number_up_to limit word n h =
+    let m = number word in
+    let p = cond_some ((nat_le 1 m && nat_le m limit) && bytes_eq word (decimal m)) m n h in
+    let bounds_digits = and_parts (nat_le 1 m && nat_le m limit) (bytes_eq word (decimal m)) p.0 in
+    let bounds = and_parts (nat_le 1 m) (nat_le m limit) bounds_digits.0 in
     rw (← p.1) record {
-      least = leb-true 1 n bounds.0;
-      most = leb-true n 2000 bounds.1;
-      digits = bytes_eq-true word (decimal n) bounds_digits.1;
+      least = leb-true 1 m bounds.0;
+      most = leb-true m limit bounds.1;
+      digits = bytes_eq-true word (decimal m) bounds_digits.1;
     }
 
--- so a word that writes no size is read as none
-pub size_of-None : (word : List ℕ) → ((size : ℕ) → IsSize word size → ⊥) → None ≡ size_of word
-size_of-None word none =
-    let n = number word in
-    let fails : ((nat_le 1 n && nat_le n 2000) && bytes_eq word (decimal n)) ≡ false =
-    false_from_ne_true _ (λ t. none n (IsSize-size_of word n (cond-true _ (Some n) None t))) in
-    sym (cond-false _ (Some n) None fails)
+-- the digits of such a number have no leading zero, and are a number
+pub IsCount-up_to : (limit : ℕ) (word : List ℕ) (n : ℕ) → limit ≤ 9999 → IsUpTo limit word n → IsCount word n
+IsCount-up_to limit word n small h = IsCount-decimal word n (omega (arith, small, h.most)) h.digits
 
--- the digits of a size have no leading zero, and are a number
-pub IsCount-size : (word : List ℕ) (size : ℕ) → IsSize word size → IsCount word size
-IsCount-size word size h = IsCount-decimal word size (omega arith) h.digits
-
--- digits without a leading zero are the size that they write
-pub size_of-number : (word : List ℕ) (size : ℕ) → IsNumber word → ¬ (HasLeadingZero word) → size ≡ number word → 1 ≤ size → size ≤ 2000 → size_of word ≡ Some size
-size_of-number word size h plain e least most =
+-- digits without a leading zero are the number that they write
+pub number_up_to-number : (limit : ℕ) (word : List ℕ) (n : ℕ) → limit ≤ 9999 → IsNumber word → ¬ (HasLeadingZero word) → n ≡ number word → 1 ≤ n → n ≤ limit → number_up_to limit word ≡ Some n
+number_up_to-number limit word n small h plain e least most =
     let alone : get_or word 0 0 ≡ 48 → length word ≡ 1 = λ zero_first. elim (cases_lt 1 (length word)) [
       | inl more ↦ absurd (plain (more, zero_first))
       | inr one ↦ omega (arith, h.some)
     ] in
-    let fits : number word < 2 ^ 64 = omega arith in
+    let fits : number word < 2 ^ 64 = omega (arith, small, e, most) in
     let digits = sym (decimal-digits_value own_digits word h.digits h.some alone fits) in
-    size_of-size word size record { least = least; most = most; digits = digits ∙ ap decimal (sym e) }
+    number_up_to-word limit word n small record { least = least; most = most; digits = digits ∙ ap decimal (sym e) }
 
 -- the bytes are a counted field
 pub record IsField (bytes content : List ℕ) : Type 0 where
   pub few : IsCountable content
-  pub whole : bytes ≡ counted content
+  pub whole : bytes ≡ counted_field content
 
 -- no byte of a number's digits is one that is no digit
 no_other_byte : (n byte k : ℕ) → n < 2 ^ 64 → ¬ (IsInRange 48 57 byte) → k < length (decimal n) → (get_or (decimal n) k 0 == byte) ≡ false
 no_other_byte n byte k fits other lt =
     ne_eqb (get_or (decimal n) k 0) byte (not_in_digits own_digits (decimal n) byte (digits_decimal own_digits n fits) other k lt)
 
--- behind the first colon of a counted field stands its content
-after_first-counted : (content : List ℕ) → IsCountable content → after_first is_colon (counted content) ≡ content
-after_first-counted content few =
-    let digits = decimal (length content) in
-    let whole = counted content in
-    let long : length digits < length whole = omega (arith, length-append digits (58 ∷ content)) in
+-- the first colon stands behind the count
+place_of_colon : (count : ℕ) (rest : List ℕ) → count ≤ 999999 → position_or_len is_colon (decimal count ++ 58 ∷ rest) ≡ length (decimal count)
+place_of_colon count rest few =
+    let digits = decimal count in
+    let whole = digits ++ 58 ∷ rest in
+    let long : length digits < length whole = omega (arith, length-append digits (58 ∷ rest)) in
     let before = λ (k : ℕ) (lt : k < length digits).
-    ap is_colon (get_or_append_left digits (58 ∷ content) 0 k lt) ∙ no_other_byte (length content) 58 k (omega arith) (λ r. omega (arith, r)) lt in
-    let here = ap is_colon (get_or_at digits 58 content 0 (length digits) refl) in
-    let place = position_or_len_is is_colon whole (length digits) 0 (omega arith) before (λ _. here) in
-    rw place (drop-append-add digits (58 ∷ content) 1)
+    ap is_colon (get_or_append_left digits (58 ∷ rest) 0 k lt) ∙ no_other_byte count 58 k (omega (arith, few)) (λ r. omega (arith, r)) lt in
+    let here = ap is_colon (get_or_at digits 58 rest 0 (length digits) refl) in
+    position_or_len_is is_colon whole (length digits) 0 (omega arith) before (λ _. here)
+
+-- behind the first colon of a counted field stands its content
+after_colon : (count : ℕ) (rest : List ℕ) → count ≤ 999999 → after_first is_colon (decimal count ++ 58 ∷ rest) ≡ rest
+after_colon count rest few = rw (place_of_colon count rest few) (drop-append-add (decimal count) (58 ∷ rest) 1)
+
+after_first-counted : (content : List ℕ) → IsCountable content → after_first is_colon (counted_field content) ≡ content
+after_first-counted content few = after_colon (length content) content few
 
 -- a counted field is read as its content, and no other bytes
 pub whole_counted-counted : (bytes content : List ℕ) → IsField bytes content → whole_counted bytes ≡ Some content
 whole_counted-counted bytes content h =
-    rw (h.whole, after_first-counted content h.few, le-leb (length content) 999999 h.few, eq-bytes_eq (counted content) (counted content) refl) refl
+    rw (h.whole, after_first-counted content h.few, le-leb (length content) 999999 h.few, eq-bytes_eq (counted_field content) (counted_field content) refl) refl
 
 pub IsField-whole_counted : (bytes content : List ℕ) → whole_counted bytes ≡ Some content → IsField bytes content
 IsField-whole_counted bytes content h =
     let found = after_first is_colon bytes in
-    let p = cond_some (nat_le (length found) 999999 && bytes_eq bytes (counted found)) found content h in
-    let parts = and_parts (nat_le (length found) 999999) (bytes_eq bytes (counted found)) p.0 in
-    rw (← p.1) record { few = leb-true (length found) 999999 parts.0; whole = bytes_eq-true bytes (counted found) parts.1 }
+    let p = cond_some (nat_le (length found) 999999 && bytes_eq bytes (counted_field found)) found content h in
+    let parts = and_parts (nat_le (length found) 999999) (bytes_eq bytes (counted_field found)) p.0 in
+    rw (← p.1) record { few = leb-true (length found) 999999 parts.0; whole = bytes_eq-true bytes (counted_field found) parts.1 }
 
 -- so bytes that are no counted field are read as none
 pub whole_counted-None : (bytes : List ℕ) → ((content : List ℕ) → IsField bytes content → ⊥) → None ≡ whole_counted bytes
 whole_counted-None bytes none =
     let found = after_first is_colon bytes in
-    let fails : (nat_le (length found) 999999 && bytes_eq bytes (counted found)) ≡ false =
+    let fails : (nat_le (length found) 999999 && bytes_eq bytes (counted_field found)) ≡ false =
     false_from_ne_true _ (λ t. none found (IsField-whole_counted bytes found (cond-true _ (Some found) None t))) in
     sym (cond-false _ (Some found) None fails)
 
@@ -139,8 +150,8 @@ whole_counted-StandsAt bytes from past h e =
     whole_counted-counted bytes (slice_range bytes from past) record { few = h.countable; whole = sym (take_all past bytes (omega arith)) ∙ h.field }
 
 -- a counted field stands at the front of itself
-pub IsField-front : (bytes content : List ℕ) → IsField bytes content → bytes ≡ counted content ++ []
-IsField-front bytes content h = h.whole ∙ sym (append-nil (counted content))
+pub IsField-front : (bytes content : List ℕ) → IsField bytes content → bytes ≡ counted_field content ++ []
+IsField-front bytes content h = h.whole ∙ sym (append-nil (counted_field content))
 
 -- what follows these bytes at the front is read, and bytes with another front are not
 pub behind-append : (front rest : List ℕ) → behind front (front ++ rest) ≡ Some rest
@@ -192,6 +203,21 @@ split_word-Some bytes word rest h =
     sym (take-append-drop at bytes) ∙ rw (drop_more bytes at 0 within, here) refl in
     split ∙ ap (λ (p : List ℕ × List ℕ). p.0 ++ 32 ∷ p.1) parts
 
+-- the same where the space is kept
+pub until_space-append : (word rest : List ℕ) → HasNoSpace word → until_space (word ++ 32 ∷ rest) ≡ Some (word, 32 ∷ rest)
+until_space-append word rest none =
+    let whole = word ++ 32 ∷ rest in
+    let long : length word < length whole = omega (arith, length-append word (32 ∷ rest)) in
+    let before = λ (k : ℕ) (lt : k < length word). ap is_space (get_or_append_left word (32 ∷ rest) 0 k lt) ∙ none k lt in
+    let here = ap is_space (get_or_at word 32 rest 0 (length word) refl) in
+    let place = position_or_len_is is_space whole (length word) 0 (omega arith) before (λ _. here) in
+    rw (place, lt-ltb (length word) (length whole) long, take_at word (32 ∷ rest) (length word) refl, drop_at word (32 ∷ rest) (length word) refl) refl
+
+pub until_space-Some : (bytes word rest : List ℕ) → until_space bytes ≡ Some (word, rest) → bytes ≡ word ++ rest
+until_space-Some bytes word rest h =
+    let (at, place, parts) = option_map-Some (λ (at : ℕ). (take at bytes, drop at bytes)) (position is_space bytes) (word, rest) h in
+    sym (take-append-drop at bytes) ∙ ap (λ (p : List ℕ × List ℕ). p.0 ++ p.1) parts
+
 -- so many bytes are split from what stands behind them and a space
 pub split_chunk-append : (n : ℕ) (chunk rest : List ℕ) → length chunk ≡ n → split_chunk n (chunk ++ 32 ∷ rest) ≡ Some (chunk, rest)
 split_chunk-append n chunk rest e =
@@ -222,3 +248,57 @@ end_cases bytes end rest (Some after) e h =
 
 pub end_of-Some : (bytes : List ℕ) (end : End) (rest : List ℕ) → end_of bytes ≡ Some (end, rest) → bytes ≡ end_word end ++ 32 ∷ rest
 end_of-Some bytes end rest h = end_cases bytes end rest (behind (codes "EMI ") bytes) refl h
+
+-- the word of what is received is read as that, and no other word as one
+pub kind_of-append : (kind : Kind) (rest : List ℕ) → kind_of (kind_word kind ++ 32 ∷ rest) ≡ Some (kind, rest)
+kind_of-append Message rest = refl
+kind_of-append Segment rest = refl
+
+kind_cases : (bytes : List ℕ) (kind : Kind) (rest : List ℕ) (message : Option (List ℕ)) → behind (codes "MESSAGE ") bytes ≡ message → kind_of bytes ≡ Some (kind, rest) → bytes ≡ kind_word kind ++ 32 ∷ rest
+kind_cases bytes kind rest None e h =
+    let (after, segment, parts) = option_map-Some (λ (after : List ℕ). (Segment, after)) (behind (codes "SEGMENT ") bytes) (kind, rest) (rw e at h) in
+    behind-Some (codes "SEGMENT ") bytes after segment ∙ ap (λ (p : Kind × List ℕ). kind_word p.0 ++ 32 ∷ p.1) parts
+kind_cases bytes kind rest (Some after) e h =
+    behind-Some (codes "MESSAGE ") bytes after e ∙ ap (λ (p : Kind × List ℕ). kind_word p.0 ++ 32 ∷ p.1) (same_Some (Message, after) (kind, rest) (rw e at h))
+
+pub kind_of-Some : (bytes : List ℕ) (kind : Kind) (rest : List ℕ) → kind_of bytes ≡ Some (kind, rest) → bytes ≡ kind_word kind ++ 32 ∷ rest
+kind_of-Some bytes kind rest h = kind_cases bytes kind rest (behind (codes "MESSAGE ") bytes) refl h
+
+-- a counted field at the front is read as its content and what stands behind it, and nothing else is
+pub split_counted-front : (bytes content rest : List ℕ) → IsCountable content → bytes ≡ counted_field content ++ rest → split_counted bytes ≡ Some (content, rest)
+split_counted-front bytes content rest few e =
+    let count = length content in
+    let digits = decimal count in
+    let parts : bytes ≡ digits ++ 58 ∷ (content ++ rest) = e ∙ append_assoc digits (58 ∷ content) rest in
+    let place : position_or_len is_colon bytes ≡ length digits = ap (position_or_len is_colon) parts ∙ place_of_colon count (content ++ rest) few in
+    let fits : count < 2 ^ 64 = omega (arith, few) in
+    let front : take (position_or_len is_colon bytes) bytes ≡ digits =
+    ap (λ k. take k bytes) place ∙ (ap (take (length digits)) parts ∙ take_at digits (58 ∷ (content ++ rest)) (length digits) refl) in
+    let is_count : number (take (position_or_len is_colon bytes) bytes) ≡ count = ap number front ∙ digits_value-decimal own_digits count fits in
+    let after : after_first is_colon bytes ≡ content ++ rest = ap (after_first is_colon) parts ∙ after_colon count (content ++ rest) few in
+    let text : take (number (take (position_or_len is_colon bytes) bytes)) (after_first is_colon bytes) ≡ content =
+    ap (λ k. take k (after_first is_colon bytes)) is_count ∙ (ap (take count) after ∙ take_at content rest count refl) in
+    let last : behind (counted_field content) bytes ≡ Some rest = ap (behind (counted_field content)) e ∙ behind-append (counted_field content) rest in
+    rw (text, le-leb count 999999 few, last) refl
+
+pub front-split_counted : (bytes content rest : List ℕ) → split_counted bytes ≡ Some (content, rest) → IsCountable content × (bytes ≡ counted_field content ++ rest)
+front-split_counted bytes content rest h =
+    let found = take (number (take (position_or_len is_colon bytes) bytes)) (after_first is_colon bytes) in
+    let (few, behind_it) = if-Some (nat_le (length found) 999999) (option_map (λ (after : List ℕ). (found, after)) (behind (counted_field found) bytes)) (content, rest) h in
+    let (after, e, parts) = option_map-Some (λ (after : List ℕ). (found, after)) (behind (counted_field found) bytes) (content, rest) behind_it in
+    let countable : IsCountable found = leb-true (length found) 999999 few in (
+      subst (λ (p : List ℕ × List ℕ). IsCountable p.0) parts countable,
+      behind-Some (counted_field found) bytes after e ∙ ap (λ (p : List ℕ × List ℕ). counted_field p.0 ++ p.1) parts,
+    )
+
+-- what stands at the front of the bytes is a counted field
+pub split_counted-StandsAt : (bytes : List ℕ) (from past : ℕ) → StandsAt bytes from past → split_counted bytes ≡ Some (slice_range bytes from past, drop past bytes)
+split_counted-StandsAt bytes from past h =
+    split_counted-front bytes (slice_range bytes from past) (drop past bytes) h.countable
+    (sym (take-append-drop past bytes) ∙ ap (λ front. front ++ drop past bytes) h.field)
+
+-- fields with one space between two, of which the last are counted fields
+pub fields-counted : (first : List ℕ) (segments : List (List ℕ)) → fields (first ∷ map counted_field segments) ≡ first ++ segment_fields segments
+fields-counted first [] = sym (append-nil first)
+fields-counted first (segment ∷ segments) =
+    ap (λ rest. first ++ 32 ∷ rest) (fields-counted (counted_field segment) segments)

@@ -1,24 +1,25 @@
 -- Doing a script line by line, over lists alone.
-use Rattle.std.proofs.Common.{◌≡◌, ℕ, ◌+◌, ◌≤◌, Bool, true, false, not, ◌&&◌, List, [], ◌∷◌, ◌++◌, length, Some, refl, ap, sym, ◌∙◌, arith, append_assoc}
+use Rattle.std.proofs.Common.{◌≡◌, ℕ, ◌+◌, ◌≤◌, Bool, true, false, Option, None, List, [], ◌∷◌, ◌++◌, length, Some, refl, ap, sym, ◌∙◌, inl, inr, arith, append_assoc}
 use Rattle.std.specs.Prelude.{codes, decimal}
-use Rattle.std.proofs.lemmas.Bool.{and_parts}
+use Rattle.std.proofs.lemmas.Bool.{cases_Bool}
 use Rattle.std.proofs.lemmas.List.{append-nil, length_push}
-use Rattle.com_text.specs.Counted.{counted}
+use Rattle.com_text.specs.Counted.{counted_field}
 use Rattle.com_msg.specs.declared.message.Message.{Message}
+use Rattle.com_msg.specs.declared.rest.Kind.{Kind}
 use Rattle.mcs_top.specs.declared.net.Net.{Net}
 use Rattle.mcs_top.specs.declared.events.Party.{Party}
 use Rattle.mcs_top.specs.declared.events.Party.TheVariants.{Unit as OfUnit, Terminal as OfTerminal}
 use Rattle.mcs_top.specs.declared.events.Call.{Call}
 use Rattle.mcs_top.specs.declared.events.Call.TheVariants.{Start, Receive, Arrive}
 use Rattle.mcs_top.specs.declared.events.Reply.{Reply}
-use Rattle.mcs_top.specs.declared.events.Reply.TheVariants.{Started, Given, NoData, Arrived}
+use Rattle.mcs_top.specs.declared.events.Reply.TheVariants.{Started, Given, NoData, Refused, Arrived}
 use Rattle.mcs_top.specs.declared.events.Entry.{Entry}
-use Rattle.mcs_top.specs.System.{State, opening, step, allowed, receive, may_do_verb, is_to_come, joined, LeadsTo}
+use Rattle.mcs_top.specs.System.{State, opening, step, next_if, is_named, next_rest, receive_next, receive, with_verb, may_do_verb, LeadsTo}
 use Rattle.mcs_top.specs.Journal.{IsCallText, IsReplyText, HasText, HaveTexts, fields}
 use Rattle.mcs_top.specs.Script.{lines_of, AreCalls}
 use Rattle.mcs_top.specs.Refusal.{StopsAt}
 use Rattle.mcs_top.specs.Performing.{DoesLine, HasDone}
-use Rattle.mcs_top.proofs.Steps.{first_is_short}
+use Rattle.mcs_top.proofs.Steps.{length-portion}
 
 -- one more call at the end
 calls_push : (lines : List (List ℕ)) (history : List Entry) (line : List ℕ) (entry : Entry) → AreCalls lines history → IsCallText entry.party entry.call line → AreCalls (lines ++ line ∷ []) (history ++ entry ∷ [])
@@ -69,9 +70,9 @@ done_until net bytes rest after line history S number refused h first is = recor
 pub done_all : (net : Net) (bytes : List ℕ) (history : List Entry) (S : State) (number : ℕ) → HasDone net bytes [] history S number → AreCalls (lines_of bytes) history
 done_all net bytes history S number h = rw (h.lines, append-nil h.before) h.calls
 
-allowed_some : (test : Bool) (x y : Reply × State) → allowed test x ≡ Some y → (test ≡ true) × (x ≡ y)
-allowed_some true x y h = (refl, cc)
-allowed_some false x y h = cc
+next_if-Some : (test : Bool) (x y : Reply × State) → next_if test x ≡ Some y → (test ≡ true) × (x ≡ y)
+next_if-Some true x y h = (refl, cc)
+next_if-Some false x y h = cc
 
 -- the text of a reply that gives no more than 2,000 characters
 abbrev IsShort : Reply → Type 0
@@ -79,34 +80,37 @@ IsShort (Given area text) = length text ≤ 2000
 IsShort _ = Unit {0}
 
 short_text : (reply : Reply) → IsShort reply → (text : List ℕ) × IsReplyText reply text
-short_text Started h = (counted [], refl)
-short_text (Given area text) h = (fields (codes "TEXT" ∷ counted area ∷ counted text ∷ []), (h, refl))
-short_text (NoData area) h = (fields (codes "NONE" ∷ counted area ∷ []), refl)
+short_text Started h = (counted_field [], refl)
+short_text (Given area text) h = (fields (codes "TEXT" ∷ counted_field area ∷ counted_field text ∷ []), (h, refl))
+short_text (NoData area) h = (fields (codes "NONE" ∷ counted_field area ∷ []), refl)
+short_text (Refused area) h = (fields (codes "REFUSED" ∷ counted_field area ∷ []), refl)
 short_text (Arrived number) h = (decimal number, refl)
 
 same_reply : (given reply : Reply) (S next : State) → ◌≡◌ {A = Reply × State} (given, S) (reply, next) → given ≡ reply
 same_reply given reply S next e = ap (λ (p : Reply × State). p.0) e
 
-not_true : (b : Bool) → not b ≡ true → b ≡ false
-not_true true h = sym h
-not_true false h = refl
+next_short : (S : State) (area : List ℕ) (kind : Kind) (size : ℕ) (found : Option (Message × List Message)) (reply : Reply) (next : State) → size ≤ 2000
+    → receive_next S area kind size found ≡ (reply, next) → IsShort reply
+next_short S area kind size None reply next small e = rw (← same_reply _ reply _ next e) tt
+next_short S area kind size (Some found) reply next small e =
+    let short = length-portion kind size found.0.end found.0.segments in
+    rw (← same_reply _ reply _ next e) (omega (arith, short, small))
 
-receive_short : (S : State) (area : List ℕ) (waiting : List Message) (reply : Reply) (next : State) → ((message : Message) (rest : List Message) → waiting ≡ message ∷ rest → length (joined message) ≤ 2000)
-    → receive S area waiting ≡ (reply, next) → IsShort reply
-receive_short S area [] reply next short e = rw (← same_reply _ reply _ next e) tt
-receive_short S area (message ∷ rest) reply next short e = rw (← same_reply _ reply _ next e) (short message rest refl)
+receive_short : (S : State) (area : List ℕ) (kind : Kind) (size : ℕ) (reply : Reply) (next : State) → size ≤ 2000 → receive S area kind size ≡ (reply, next) → IsShort reply
+receive_short S area kind size reply next small e = elim (cases_Bool (is_named S.net.queue.name area)) [
+  | inl named ↦ next_short S area kind size (next_rest S.held S.waiting) reply next small (rw named at e)
+  | inr other ↦ rw (← same_reply _ reply _ next (rw other at e)) tt
+]
 
 -- the reply of a step has a text
 pub step_short : (S : State) (party : Party) (call : Call) (text : List ℕ) (reply : Reply) (next : State) → IsCallText party call text → step S party call ≡ Some (reply, next) → IsShort reply
-step_short S (OfUnit unit) Start text reply next h stepped = rw (← same_reply _ _ _ _ (allowed_some _ _ _ stepped).1) tt
-step_short S (OfUnit unit) (Receive area size) text reply next h stepped =
-    let made = allowed_some (may_do_verb S unit && not (is_to_come S (Receive area size))) (receive S area S.waiting) (reply, next) stepped in
-    let built = not_true (is_to_come S (Receive area size)) (and_parts (may_do_verb S unit) _ made.0).1 in
-    receive_short S area S.waiting reply next (λ message rest first. first_is_short S area size built message rest first h.1.1) made.1
-step_short S (OfTerminal terminal) (Arrive stamp message) text reply next h stepped = rw (← same_reply _ _ _ _ (allowed_some _ _ _ stepped).1) tt
+step_short S (OfUnit unit) Start text reply next h stepped = rw (← same_reply _ _ _ _ (next_if-Some _ _ _ stepped).1) tt
+step_short S (OfUnit unit) (Receive area kind size) text reply next h stepped =
+    receive_short (with_verb S) area kind size reply next h.1.1 (next_if-Some (may_do_verb S unit) (receive (with_verb S) area kind size) (reply, next) stepped).1
+step_short S (OfTerminal terminal) (Arrive stamp message) text reply next h stepped = rw (← same_reply _ _ _ _ (next_if-Some _ _ _ stepped).1) tt
 step_short S (OfUnit unit) (Arrive stamp message) text reply next h stepped = absurd h
 step_short S (OfTerminal terminal) Start text reply next h stepped = absurd h
-step_short S (OfTerminal terminal) (Receive area size) text reply next h stepped = absurd h
+step_short S (OfTerminal terminal) (Receive area kind size) text reply next h stepped = absurd h
 
 pub step_text : (S : State) (party : Party) (call : Call) (text : List ℕ) (reply : Reply) (next : State) → IsCallText party call text → step S party call ≡ Some (reply, next)
     → HasText (record { party = party; call = call; reply = reply })

@@ -11,7 +11,7 @@ use Rattle.mcs_top.specs.declared.replay.Fault.{Fault}
 use Rattle.mcs_top.specs.declared.replay.Fault.TheVariants.{Refused, Write, Memory}
 use Rattle.mcs_top.specs.Files.{IsRead, IsUnwritten, HasNoFault}
 use Rattle.mcs_top.specs.Journal.{IsJournal}
-use Rattle.mcs_top.specs.Outputs.{outputs, all_written, IsPartlyWritten}
+use Rattle.mcs_top.specs.Outputs.{outputs, contents_after, IsPartlyWritten}
 use Rattle.mcs_top.specs.Refusal.{IsRefused}
 use Rattle.mcs_top.specs.Replay.{IsNotRead, IsBadDescription, HasStopped, HasRunShort, IsUsage, IsDescriptionRefused, IsFileUnread, IsScriptRefused, OfReplay, usage_report, description_report, unreadable_report, script_report}
 
@@ -26,7 +26,8 @@ IsNotReadFor name before after Write = ⊥
 
 -- a description that was read and is refused
 abbrev pub IsRefusedNet : List ℕ → Shown → Shown → Type 0
-IsRefusedNet name before after = (description : List ℕ) × IsRead name description before after × IsBadDescription description
+IsRefusedNet name before after =
+    (description : List ℕ) × IsRead name description before after × IsBadDescription description
 
 abbrev pub IsNetFault : List ℕ → Shown → Shown → Fault → Type 0
 IsNetFault name before after (Refused (Unread told)) = (told.now ≡ name) × IsNotRead before after
@@ -38,32 +39,39 @@ IsNetFault name before after Write = ⊥
 
 -- a script that was read and is refused
 abbrev pub IsRefusedScript : List ℕ → Net → Shown → Shown → ℕ → Reason → Type 0
-IsRefusedScript name net before after line reason = (script : List ℕ) × IsRead name script before after × IsRefused net script line reason
+IsRefusedScript name net before after line reason =
+    (script : List ℕ) × IsRead name script before after × IsRefused net script line reason
 
 abbrev pub IsScriptFault : List ℕ → Net → Shown → Shown → Fault → Type 0
-IsScriptFault name net before after (Refused (Unread told)) = (told.now ≡ name) × IsNotRead before after
+IsScriptFault name net before after (Refused (Unread told)) =
+    (told.now ≡ name) × IsNotRead before after
 IsScriptFault name net before after Memory = IsUnwritten before after
 IsScriptFault name net before after (Refused Usage) = ⊥
 IsScriptFault name net before after (Refused Description) = ⊥
-IsScriptFault name net before after (Refused (Script line reason)) = IsRefusedScript name net before after line reason
+IsScriptFault name net before after (Refused (Script line reason)) =
+    IsRefusedScript name net before after line reason
 IsScriptFault name net before after Write = ⊥
 
 -- all outputs of the history were written
 abbrev pub HasWritten : Net → List Entry → Shown → Shown → Type 0
 HasWritten net history before after =
-    (journal : List ℕ) × IsJournal history journal × (after.contents ≡ option_map (all_written (outputs net history journal)) before.contents)
+    (journal : List ℕ) × IsJournal history journal
+    × (after.contents ≡ option_map (contents_after (outputs net history journal)) before.contents)
     × HasNoFault before after
 
 -- only some were
 abbrev pub HasPartlyWritten : Net → List Entry → Shown → Shown → Type 0
 HasPartlyWritten net history before after =
-    (journal : List ℕ) × IsJournal history journal × IsPartlyWritten (outputs net history journal) before.contents after.contents
+    (journal : List ℕ) × IsJournal history journal × IsPartlyWritten (outputs net history journal)
+    before.contents after.contents
 
 abbrev pub IsWriteFault : Net → List Entry → Shown → Shown → Fault → Type 0
 IsWriteFault net history before after (Refused refusal) = ⊥
 IsWriteFault net history before after Memory =
-    IsUnwritten before after ⊎ (HasPartlyWritten net history before after × (after.write_faults ≡ before.write_faults))
-IsWriteFault net history before after Write = HasPartlyWritten net history before after × Rose before.write_faults after.write_faults
+    IsUnwritten before after
+    ⊎ (HasPartlyWritten net history before after × (after.write_faults ≡ before.write_faults))
+IsWriteFault net history before after Write =
+    HasPartlyWritten net history before after × Rose before.write_faults after.write_faults
 
 -- what the store showed when this report was due
 abbrev pub IsDue : Shown → List ℕ → Shown → List ℕ → Type 0
@@ -71,13 +79,18 @@ IsDue now report tried text = (tried ≡ now) × (text ≡ report)
 
 abbrev pub IsRefusal : List ℕ → List ℕ → Shown → Shown → Refusal → Type 0
 IsRefusal net_file script_file before tried Usage = ⊥
-IsRefusal net_file script_file before tried Description = IsDescriptionRefused before (IsDue tried description_report) net_file script_file
-IsRefusal net_file script_file before tried (Unread name) = IsFileUnread before (IsDue tried (unreadable_report name.now)) net_file script_file
-IsRefusal net_file script_file before tried (Script line reason) = IsScriptRefused before (IsDue tried (script_report line reason)) net_file script_file
+IsRefusal net_file script_file before tried Description =
+    IsDescriptionRefused before (IsDue tried description_report) net_file script_file
+IsRefusal net_file script_file before tried (Unread name) =
+    IsFileUnread before (IsDue tried (unreadable_report name.now)) net_file script_file
+IsRefusal net_file script_file before tried (Script line reason) =
+    IsScriptRefused before (IsDue tried (script_report line reason)) net_file script_file
 
 abbrev pub HasFailed : List ℕ → List ℕ → Shown → Shown → Fault → Type 0
-HasFailed net_file script_file before after (Refused refusal) = IsRefusal net_file script_file before after refusal
-HasFailed net_file script_file before after Memory = IsUnwritten before after ⊎ HasRunShort before after net_file script_file
+HasFailed net_file script_file before after (Refused refusal) =
+    IsRefusal net_file script_file before after refusal
+HasFailed net_file script_file before after Memory =
+    IsUnwritten before after ⊎ HasRunShort before after net_file script_file
 HasFailed net_file script_file before after Write = HasStopped before after net_file script_file
 
 abbrev pub report_of : Refusal → List ℕ
@@ -94,11 +107,15 @@ status_of (Script line reason) = 8
 
 abbrev pub IsWordsRefusal : List (List ℕ) → Shown → Shown → Refusal → Type 0
 IsWordsRefusal words before tried Usage = IsUsage words before (IsDue tried usage_report)
-IsWordsRefusal words before tried Description = OfReplay words (IsDescriptionRefused before (IsDue tried description_report))
-IsWordsRefusal words before tried (Unread name) = OfReplay words (IsFileUnread before (IsDue tried (unreadable_report name.now)))
-IsWordsRefusal words before tried (Script line reason) = OfReplay words (IsScriptRefused before (IsDue tried (script_report line reason)))
+IsWordsRefusal words before tried Description =
+    OfReplay words (IsDescriptionRefused before (IsDue tried description_report))
+IsWordsRefusal words before tried (Unread name) =
+    OfReplay words (IsFileUnread before (IsDue tried (unreadable_report name.now)))
+IsWordsRefusal words before tried (Script line reason) =
+    OfReplay words (IsScriptRefused before (IsDue tried (script_report line reason)))
 
 abbrev pub IsCommandFault : List (List ℕ) → Shown → Shown → Fault → Type 0
 IsCommandFault words before after (Refused refusal) = IsWordsRefusal words before after refusal
-IsCommandFault words before after Memory = IsUnwritten before after ⊎ OfReplay words (HasRunShort before after)
+IsCommandFault words before after Memory =
+    IsUnwritten before after ⊎ OfReplay words (HasRunShort before after)
 IsCommandFault words before after Write = OfReplay words (HasStopped before after)

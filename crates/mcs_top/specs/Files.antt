@@ -13,8 +13,10 @@ bytes_read file = take (file_limit + 1) file
 
 -- the file was read and closed, and nothing else changed
 pub record IsRead (name bytes : List ℕ) (before after : Shown) : Type 0 where
-  pub told : IfSome before.contents (λ c. (file : List ℕ) × (map.get c.files name ≡ Some file) × (bytes ≡ bytes_read file)
-      × (after.contents ≡ Some (with_closing (record { left = length file - length bytes; failed = false }) c)))
+  pub told : IfSome before.contents
+      (λ c. (file : List ℕ) × (map.get c.files name ≡ Some file) × (bytes ≡ bytes_read file)
+      × (after.contents ≡ Some
+      (with_closing (record { left = length file - length bytes; failed = false }) c)))
   pub pending : after.pending ≡ before.pending
   pub open_faults : after.open_faults ≡ before.open_faults
   pub read_faults : after.read_faults ≡ before.read_faults
@@ -30,7 +32,8 @@ pub record IsUnopened (before after : Shown) : Type 0 where
 
 -- a read of the file failed; it was closed, and nothing else changed
 pub record IsUnreadable (before after : Shown) : Type 0 where
-  pub closed : IfSome before.contents (λ c. (left : ℕ) × (after.contents ≡ Some (with_closing (record { left = left; failed = true }) c)))
+  pub closed : IfSome before.contents (λ c. (left : ℕ)
+      × (after.contents ≡ Some (with_closing (record { left = left; failed = true }) c)))
   pub pending : after.pending ≡ before.pending
   pub open_faults : after.open_faults ≡ before.open_faults
   pub rose : Rose before.read_faults after.read_faults

@@ -1,4 +1,5 @@
--- The network of a description: a TOML document with exactly these keys, for one terminal, one queue and one run unit.
+-- The network of a description: a TOML document with exactly these keys, for one terminal, one
+-- queue and one run unit.
 use Rattle.std.specs.Prelude.{◌≡◌, ℕ, ℤ, pos, ◌-◌, Bool, true, false, not, ◌&&◌, ◌||◌, ◌==◌, nat_le, List, [], ◌∷◌, length, slice_index, Option, Some, None, option_and_then, if◌then◌else◌, codes, IsUtf8}
 use Rattle.std.specs.List.{list_all, list_any}
 use Rattle.std.specs.Str.{bytes_eq}
@@ -17,7 +18,8 @@ is_small_letter byte = nat_le 97 byte && nat_le byte 122
 -- letters, digits, periods, hyphens and underscores
 abbrev pub is_file_name_byte : ℕ → Bool
 is_file_name_byte byte =
-    (((is_letter byte || is_small_letter byte) || is_digit byte) || byte == 46) || (byte == 45 || byte == 95)
+    (((is_letter byte || is_small_letter byte) || is_digit byte) || byte == 46)
+    || (byte == 45 || byte == 95)
 
 -- one to 64 such characters, the first no period
 abbrev pub is_file_name : List ℕ → Bool
@@ -34,16 +36,17 @@ is_password text =
 -- each key of a table is one of these
 abbrev pub has_only : List (List ℕ) → Members → Bool
 has_only keys no_members = true
-has_only keys (member key value rest) = list_any (λ known. bytes_eq known key) keys && has_only keys rest
+has_only keys (member key value rest) =
+    list_any (λ known. bytes_eq known key) keys && has_only keys rest
 
 -- a string that passes a test
-abbrev pub passing : (List ℕ → Bool) → Option (List ℕ) → Option (List ℕ)
-passing test None = None
-passing test (Some text) = if test text then Some text else None
+abbrev pub string_if : (List ℕ → Bool) → Option (List ℕ) → Option (List ℕ)
+string_if test None = None
+string_if test (Some text) = if test text then Some text else None
 
 -- the string at a key, if it passes the test
 abbrev pub string_at : (List ℕ → Bool) → List ℕ → Members → Option (List ℕ)
-string_at test key members = passing test (option_and_then as_str (get_member key members))
+string_at test key members = string_if test (option_and_then as_str (get_member key members))
 
 -- the only value of an array
 abbrev pub only_item : Items → Option Data
@@ -52,7 +55,8 @@ only_item _ = None
 
 -- the value at a key that has an array of one value
 abbrev pub only_element : List ℕ → Members → Option Data
-only_element key members = option_and_then only_item (option_and_then as_array (get_member key members))
+only_element key members =
+    option_and_then only_item (option_and_then as_array (get_member key members))
 
 -- the table at a key that has an array of one table
 abbrev pub table_at : List ℕ → Members → Option Members
@@ -84,12 +88,14 @@ queue_of members =
 -- the route is the queue's name
 abbrev pub terminal_of : List ℕ → Members → Option Terminal
 terminal_of queue members =
-    if (has_only (codes "name" ∷ codes "password" ∷ codes "input" ∷ codes "framing" ∷ codes "route" ∷ []) members
+    if (has_only
+    (codes "name" ∷ codes "password" ∷ codes "input" ∷ codes "framing" ∷ codes "route" ∷ []) members
     && is_this (codes "marks") (option_and_then as_str (get_member (codes "framing") members)))
     && is_this queue (element_at (codes "route") members) then
     option_and_then (λ name. option_and_then (λ password. option_and_then (λ input.
     Some (record { name = name; password = password; input = input }))
-    (string_at is_file_name (codes "input") members)) (string_at is_password (codes "password") members)) (string_at is_name (codes "name") members)
+    (string_at is_file_name (codes "input") members)) (string_at is_password (codes "password")
+    members)) (string_at is_name (codes "name") members)
     else None
 
 abbrev pub unit_of : Members → Option RunUnit
@@ -110,7 +116,8 @@ abbrev pub net_of_document : Members → Option Net
 net_of_document document =
     if has_only (codes "version" ∷ codes "terminal" ∷ codes "queue" ∷ codes "unit" ∷ []) document
     && has_version_one document then
-    option_and_then (λ queue. option_and_then (λ terminal. option_and_then (λ unit. net_of_parts queue terminal unit)
+    option_and_then (λ queue. option_and_then
+    (λ terminal. option_and_then (λ unit. net_of_parts queue terminal unit)
     (option_and_then unit_of (table_at (codes "unit") document)))
     (option_and_then (terminal_of queue.name) (table_at (codes "terminal") document)))
     (option_and_then queue_of (table_at (codes "queue") document))

@@ -1,6 +1,6 @@
 -- What a run writes: the journal, a transcript for the terminal, and a summary.
 use Rattle.std.specs.Prelude.{◌≡◌, ℕ, Bool, true, false, List, [], ◌∷◌, ◌++◌, Option, option_map, codes, decimal, count_by}
-use Rattle.com_io.specs.Stores.{Contents, with_written, IsPartWritten}
+use Rattle.com_io.specs.Stores.{Contents, with_output, IsPartWritten}
 use Rattle.mcs_top.specs.declared.net.Net.{Net}
 use Rattle.mcs_top.specs.declared.events.Reply.{Reply}
 use Rattle.mcs_top.specs.declared.events.Reply.TheVariants.{Given, Arrived}
@@ -28,18 +28,21 @@ abbrev pub count_line : List ℕ → ℕ → List ℕ
 count_line word n = word ++ (decimal n ++ codes "\n")
 
 abbrev pub party_lines : Net → List ℕ
-party_lines net = party_line (codes "unit ") net.unit.name ++ party_line (codes "terminal ") net.terminal.name
+party_lines net =
+    party_line (codes "unit ") net.unit.name ++ party_line (codes "terminal ") net.terminal.name
 
 abbrev pub count_lines : ℕ → ℕ → ℕ → List ℕ
 count_lines arrivals portions transmitted =
-    count_line (codes "arrivals ") arrivals ++ (count_line (codes "portions ") portions ++ count_line (codes "transmitted ") transmitted)
+    count_line (codes "arrivals ") arrivals
+    ++ (count_line (codes "portions ") portions ++ count_line (codes "transmitted ") transmitted)
 
 -- no call sends yet
 abbrev pub transmitted : List Entry → ℕ
 transmitted history = 0
 
 abbrev pub summary : Net → List Entry → List ℕ
-summary net history = party_lines net ++ count_lines (arrivals history) (portions history) (transmitted history)
+summary net history =
+    party_lines net ++ count_lines (arrivals history) (portions history) (transmitted history)
 
 -- what is transmitted to the terminal: nothing, since no call sends yet
 abbrev pub transcript : List Entry → List ℕ
@@ -58,17 +61,19 @@ output_name = codes "-"
 -- all that is written, as names and bytes, in this order
 abbrev pub outputs : Net → List Entry → List ℕ → List (List ℕ × List ℕ)
 outputs net history journal =
-    (journal_name, journal) ∷ (transcript_name net.terminal.name, transcript history) ∷ (output_name, summary net history) ∷ []
+    (journal_name, journal) ∷ (transcript_name net.terminal.name, transcript history)
+    ∷ (output_name, summary net history) ∷ []
 
 -- the contents after some writes, one after another
-abbrev pub all_written : List (List ℕ × List ℕ) → Contents → Contents
-all_written [] c = c
-all_written (write ∷ writes) c = all_written writes (with_written write.0 write.1 c)
+abbrev pub contents_after : List (List ℕ × List ℕ) → Contents → Contents
+contents_after [] c = c
+contents_after (write ∷ writes) c = contents_after writes (with_output write.0 write.1 c)
 
 -- Some of the writes were done, in order, and then one of them in part or not at all.
-pub record IsPartlyWritten (writes : List (List ℕ × List ℕ)) (before after : Option Contents) : Type 0 where
+pub record IsPartlyWritten (writes : List (List ℕ × List ℕ))
+    (before after : Option Contents) : Type 0 where
   pub done : List (List ℕ × List ℕ)
   pub next : List ℕ × List ℕ
   pub rest : List (List ℕ × List ℕ)
   pub split : writes ≡ done ++ next ∷ rest
-  pub part : IsPartWritten next.0 next.1 (option_map (all_written done) before) after
+  pub part : IsPartWritten next.0 next.1 (option_map (contents_after done) before) after

@@ -21,7 +21,8 @@ pub record DoesLine (line : List ℕ) (history longer : List Entry) (S next : St
   pub written : HasText entry
 
 -- so many lines behind the header were done, and these bytes are left
-pub record HasDone (net : Net) (bytes rest : List ℕ) (history : List Entry) (S : State) (number : ℕ) : Type 0 where
+pub record HasDone (net : Net) (bytes rest : List ℕ) (history : List Entry) (S : State)
+    (number : ℕ) : Type 0 where
   pub before : List (List ℕ)
   pub lines : lines_of bytes ≡ before ++ lines_of rest
   pub place : number ≡ length before + 1

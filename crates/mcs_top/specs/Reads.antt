@@ -18,4 +18,5 @@ pub record ReadsChunk (n : ℕ) (before after : List ℕ) (left rest : Option (L
   pub many : length chunk ≡ n
   pub appended : after ≡ before ++ chunk
   pub short : length before + n ≤ file_limit + 1
-  pub taken : IfSome left (λ bytes. (chunk ≡ take n bytes) × (rest ≡ Some (drop n bytes)) × (n ≡ 0 → length bytes ≡ 0))
+  pub taken : IfSome left
+      (λ bytes. (chunk ≡ take n bytes) × (rest ≡ Some (drop n bytes)) × (n ≡ 0 → length bytes ≡ 0))

@@ -1,7 +1,7 @@
 -- What `replay` does, by the words it is given and what the store holds before and after.
 use Rattle.std.specs.Prelude.{◌≡◌, ℕ, ◌<◌, ◌≤◌, ◌⊎◌, Bool, not, ◌&&◌, ◌||◌, ◌==◌, nat_lt, List, [], ◌∷◌, ◌++◌, length, slice_index, option_map, IsTrue, codes, decimal}
 use Rattle.com_io.specs.Faults.{Rose}
-use Rattle.com_io.specs.Stores.{Shown, with_written, IsPartWritten}
+use Rattle.com_io.specs.Stores.{Shown, with_output, IsPartWritten}
 use Rattle.mcs_top.specs.declared.net.Net.{Net}
 use Rattle.mcs_top.specs.declared.events.Entry.{Entry}
 use Rattle.mcs_top.specs.declared.script.Reason.{Reason}
@@ -12,7 +12,7 @@ use Rattle.mcs_top.specs.System.{Legal}
 use Rattle.mcs_top.specs.Journal.{IsJournal}
 use Rattle.mcs_top.specs.Script.{MakesCallsOf}
 use Rattle.mcs_top.specs.Refusal.{IsRefused}
-use Rattle.mcs_top.specs.Outputs.{outputs, output_name, all_written, IsPartlyWritten}
+use Rattle.mcs_top.specs.Outputs.{outputs, output_name, contents_after, IsPartlyWritten}
 
 -- a word that names a file: not empty, and not beginning with a hyphen
 abbrev pub is_file_word : List ℕ → Bool
@@ -38,34 +38,37 @@ pub record IsNetRead (net_file : List ℕ) (before read : Shown) (net : Net) : T
   pub described : Describes description net
 
 -- SCRIPT was read, and this legal history makes just its calls.
-pub record IsScriptDone (script_file : List ℕ) (net : Net) (before read : Shown) (history : List Entry) : Type 0 where
+pub record IsScriptDone (script_file : List ℕ) (net : Net) (before read : Shown)
+    (history : List Entry) : Type 0 where
   pub script : List ℕ
   pub is_read : IsRead script_file script before read
   pub short : length script ≤ file_limit
   pub calls : MakesCallsOf script history
   pub legal : Legal net history
 
--- Both files were read and closed, and all that the store shows else is as before; the journal is that of
--- the history of the script's calls.
-pub record IsPerformed (net_file script_file : List ℕ) (before read : Shown) (net : Net) (history : List Entry) (journal : List ℕ) : Type 0 where
+-- Both files were read and closed, and all that the store shows else is as before; the journal is
+-- that of the history of the script's calls.
+pub record IsPerformed (net_file script_file : List ℕ) (before read : Shown) (net : Net)
+    (history : List Entry) (journal : List ℕ) : Type 0 where
   pub between : Shown
   pub net_read : IsNetRead net_file before between net
   pub script_done : IsScriptDone script_file net between read history
   pub journal_text : IsJournal history journal
 
--- The history was written as the journal, with the transcript and the summary, and nothing else changed
--- but that both files were read and closed. No fault was counted.
+-- The history was written as the journal, with the transcript and the summary, and nothing else
+-- changed but that both files were read and closed. No fault was counted.
 pub record HasReplayed (before after : Shown) (net_file script_file : List ℕ) : Type 0 where
   pub net : Net
   pub history : List Entry
   pub journal : List ℕ
   pub read : Shown
   pub performed : IsPerformed net_file script_file before read net history journal
-  pub contents : after.contents ≡ option_map (all_written (outputs net history journal)) read.contents
+  pub contents : after.contents ≡ option_map (contents_after (outputs net history journal))
+      read.contents
   pub no_fault : HasNoFault before after
 
--- A write of the outputs did not go through. The history is as where all is written, and what was written
--- is a prefix of what was to be written.
+-- A write of the outputs did not go through. The history is as where all is written, and what was
+-- written is a prefix of what was to be written.
 pub record IsCutShort (before after : Shown) (net_file script_file : List ℕ) : Type 0 where
   pub net : Net
   pub history : List Entry
@@ -84,17 +87,19 @@ abbrev pub HasRunShort : Shown → Shown → List ℕ → List ℕ → Type 0
 HasRunShort before after net_file script_file =
     IsCutShort before after net_file script_file × (after.write_faults ≡ before.write_faults)
 
--- From what the store showed then, this line was written to standard output, or a prefix of it where that
--- write failed; nothing else was written.
+-- From what the store showed then, this line was written to standard output, or a prefix of it
+-- where that write failed; nothing else was written.
 abbrev pub IsReported : Shown → Shown → List ℕ → Type 0
 IsReported after tried report =
-    (after.contents ≡ option_map (with_written output_name report) tried.contents)
-    ⊎ (IsPartWritten output_name report tried.contents after.contents × Rose tried.write_faults after.write_faults)
+    (after.contents ≡ option_map (with_output output_name report) tried.contents)
+    ⊎ (IsPartWritten output_name report tried.contents after.contents
+    × Rose tried.write_faults after.write_faults)
 
 -- A prefix of this line was written, or nothing, and no failed write was counted.
 abbrev pub IsCutReport : Shown → Shown → List ℕ → Type 0
 IsCutReport after tried report =
-    IsPartWritten output_name report tried.contents after.contents × (after.write_faults ≡ tried.write_faults)
+    IsPartWritten output_name report tried.contents after.contents
+    × (after.write_faults ≡ tried.write_faults)
 
 abbrev pub usage_report : List ℕ
 usage_report = codes "usage: mcs run NET, replay NET SCRIPT, check NET, show MODE FILE, load N\n"
@@ -112,11 +117,14 @@ reason_word NotYet = codes "NOTYET"
 reason_word NotAllowed = codes "CALL"
 
 abbrev pub script_report : ℕ → Reason → List ℕ
-script_report line reason = codes "script refused: line " ++ (decimal line ++ (codes " " ++ (reason_word reason ++ codes "\n")))
+script_report line reason =
+    codes "script refused: line "
+    ++ (decimal line ++ (codes " " ++ (reason_word reason ++ codes "\n")))
 
--- The words are no command that is built so far. `Told` says what became of a report from what the store
--- showed before it, here and below.
-pub record IsUsage (words : List (List ℕ)) (before : Shown) (Told : Shown → List ℕ → Type 0) : Type 0 where
+-- The words are no command that is built so far. `Told` says what became of a report from what the
+-- store showed before it, here and below.
+pub record IsUsage (words : List (List ℕ)) (before : Shown)
+    (Told : Shown → List ℕ → Type 0) : Type 0 where
   pub other : (net_file script_file : List ℕ) → IsReplay words net_file script_file → ⊥
   pub told : Told before usage_report
 
@@ -125,7 +133,8 @@ abbrev pub IsBadDescription : List ℕ → Type 0
 IsBadDescription bytes = (file_limit < length bytes) ⊎ ((net : Net) → Describes bytes net → ⊥)
 
 -- NET was read and is refused.
-pub record IsDescriptionRefused (before : Shown) (Told : Shown → List ℕ → Type 0) (net_file script_file : List ℕ) : Type 0 where
+pub record IsDescriptionRefused (before : Shown) (Told : Shown → List ℕ → Type 0)
+    (net_file script_file : List ℕ) : Type 0 where
   pub description : List ℕ
   pub read : Shown
   pub is_read : IsRead net_file description before read
@@ -137,13 +146,15 @@ abbrev pub IsNotRead : Shown → Shown → Type 0
 IsNotRead before after = IsUnopened before after ⊎ IsUnreadable before after
 
 -- NET could not be read.
-pub record IsNetUnread (before : Shown) (Told : Shown → List ℕ → Type 0) (net_file : List ℕ) : Type 0 where
+pub record IsNetUnread (before : Shown) (Told : Shown → List ℕ → Type 0)
+    (net_file : List ℕ) : Type 0 where
   pub tried : Shown
   pub unread : IsNotRead before tried
   pub told : Told tried (unreadable_report net_file)
 
 -- NET was read, and SCRIPT could not be.
-pub record IsScriptUnread (before : Shown) (Told : Shown → List ℕ → Type 0) (net_file script_file : List ℕ) : Type 0 where
+pub record IsScriptUnread (before : Shown) (Told : Shown → List ℕ → Type 0)
+    (net_file script_file : List ℕ) : Type 0 where
   pub between : Shown
   pub net : Net
   pub net_read : IsNetRead net_file before between net
@@ -152,10 +163,12 @@ pub record IsScriptUnread (before : Shown) (Told : Shown → List ℕ → Type 0
   pub told : Told tried (unreadable_report script_file)
 
 abbrev pub IsFileUnread : Shown → (Shown → List ℕ → Type 0) → List ℕ → List ℕ → Type 0
-IsFileUnread before Told net_file script_file = IsNetUnread before Told net_file ⊎ IsScriptUnread before Told net_file script_file
+IsFileUnread before Told net_file script_file =
+    IsNetUnread before Told net_file ⊎ IsScriptUnread before Told net_file script_file
 
 -- SCRIPT was read and is refused at this line for this reason.
-pub record IsScriptRefused (before : Shown) (Told : Shown → List ℕ → Type 0) (net_file script_file : List ℕ) : Type 0 where
+pub record IsScriptRefused (before : Shown) (Told : Shown → List ℕ → Type 0)
+    (net_file script_file : List ℕ) : Type 0 where
   pub between : Shown
   pub net : Net
   pub net_read : IsNetRead net_file before between net
@@ -175,7 +188,8 @@ IsRefusedAtAll words before Told =
     ⊎ (OfReplay words (IsFileUnread before Told)
     ⊎ OfReplay words (IsScriptRefused before Told)))
 
--- Memory ran out: before anything was written, in the write of a report, or in the writes of the outputs.
+-- Memory ran out: before anything was written, in the write of a report, or in the writes of the
+-- outputs.
 abbrev pub IsOutOfMemory : List (List ℕ) → Shown → Shown → Type 0
 IsOutOfMemory words before after =
     IsUnwritten before after

@@ -14,7 +14,8 @@ onto_first byte (line ∷ lines) = (byte ∷ line) ∷ lines
 -- the lines of a text; the last may lack its line feed
 abbrev pub lines_of : List ℕ → List (List ℕ)
 lines_of [] = []
-lines_of (byte ∷ bytes) = if is_line_feed byte then [] ∷ lines_of bytes else onto_first byte (lines_of bytes)
+lines_of (byte ∷ bytes) =
+    if is_line_feed byte then [] ∷ lines_of bytes else onto_first byte (lines_of bytes)
 
 abbrev pub script_header : List ℕ
 script_header = codes "MCS-SCRIPT 1"
@@ -22,7 +23,8 @@ script_header = codes "MCS-SCRIPT 1"
 -- each line is the text of the entry's call
 abbrev pub AreCalls : List (List ℕ) → List Entry → Type 0
 AreCalls [] [] = Unit {0}
-AreCalls (line ∷ lines) (entry ∷ entries) = IsCallText entry.party entry.call line × AreCalls lines entries
+AreCalls (line ∷ lines) (entry ∷ entries) =
+    IsCallText entry.party entry.call line × AreCalls lines entries
 AreCalls [] (entry ∷ entries) = ⊥
 AreCalls (line ∷ lines) [] = ⊥
 

@@ -11,7 +11,9 @@ abbrev pub write_of : Output → List ℕ × List ℕ
 write_of output = (output.name.now, output.bytes.now)
 
 abbrev pub writes_of : Texts → List (List ℕ × List ℕ)
-writes_of texts = (journal_name, texts.journal) ∷ (string_bytes texts.transcript_name, []) ∷ (output_name, texts.summary) ∷ []
+writes_of texts =
+    (journal_name, texts.journal) ∷ (string_bytes texts.transcript_name, [])
+    ∷ (output_name, texts.summary) ∷ []
 
 -- the texts are the outputs of this history
 pub record AreTextsOf (net : Net) (history : List Entry) (texts : Texts) : Type 0 where

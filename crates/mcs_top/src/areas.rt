@@ -1,11 +1,12 @@
 //! What RECEIVE reads from an input area and writes to it.
 ghost use Rattle.std.specs.Prelude.{◌≡◌, ◌<◌, length};
+ghost use Rattle.com_msg.specs.Portion.{IsEndKey};
 ghost use Rattle.com_text.specs.Text.{IsText};
 ghost use Rattle.com_text.specs.Digits.{in_digits};
-ghost use Rattle.mcs_top.specs.System.{is_named, given_area, no_data_area, joined, last_key, with_path, with_origin, with_portion};
+ghost use Rattle.mcs_top.specs.System.{is_named, given_area, no_data_area, refused_area, with_path, with_origin, with_portion};
 
-use com_cd::{InArea, InField};
-use com_msg::{End, Message};
+use com_cd::{Designation, InArea, InField, Status};
+use com_msg::{Portion, Rest};
 use com_text::{Name, digits};
 
 const SPACES: [u8; 12] = [b' '; 12];
@@ -14,22 +15,26 @@ const SPACES: [u8; 12] = [b' '; 12];
 pub fn is_named(queue: &Name, area: &InArea) -> bool
     ensures { result ≡ is_named queue.now area.now }
 {
-    let field = queue.field();
-    area.get(InField::Queue) == field.as_slice()
-        && area.get(InField::Sub1) == SPACES.as_slice()
-        && area.get(InField::Sub2) == SPACES.as_slice()
-        && area.get(InField::Sub3) == SPACES.as_slice()
+    let queue = queue.as_bytes();
+    match area.designation() {
+        Designation::Path(path) => match path.names() {
+            [name] => name.as_bytes() == queue,
+            _ => false,
+        },
+        Designation::Malformed => false,
+    }
 }
 
-/// The area that tells of a message which is given whole, and has so many characters.
-pub fn given_area(queue: &Name, message: &Message, characters: usize, area: &InArea) -> InArea
-    requires characters { characters ≡ length (joined message.now) }
-    requires short { characters < 10000 }
-    ensures { result ≡ given_area queue.now message.now area.now }
+/// The area that tells of a portion of a message.
+pub fn given_area(queue: &Name, rest: &Rest, portion: &Portion, area: &InArea) -> InArea
+    requires short { length portion.now.text < 10000 }
+    requires end_key { IsEndKey portion.now.end_key }
+    ensures { result ≡ given_area queue.now rest.now portion.now area.now }
 {
     let area = with_path(queue, *area);
-    let area = with_origin(message, area);
-    with_portion(&four_digits(characters), last_key(message.end), area)
+    let area = with_origin(rest, area);
+    let length = four_digits(portion.text.as_bytes().len());
+    with_portion(&length, &[portion.end_key], area)
 }
 
 /// The area after a RECEIVE that found nothing.
@@ -37,6 +42,15 @@ pub fn no_data_area(area: &InArea) -> InArea
     ensures { result ≡ no_data_area area.now }
 {
     with_portion(b"0000", b"0", *area)
+}
+
+/// The area after a RECEIVE whose names are no queue's.
+pub fn refused_area(area: &InArea) -> InArea
+    ensures { result ≡ refused_area area.now }
+{
+    let mut area = *area;
+    area.set(InField::Status, &Status::S20.bytes());
+    area
 }
 
 fn with_path(queue: &Name, mut area: InArea) -> InArea
@@ -49,12 +63,13 @@ fn with_path(queue: &Name, mut area: InArea) -> InArea
     area
 }
 
-fn with_origin(message: &Message, mut area: InArea) -> InArea
-    ensures { result ≡ with_origin message.now area }
+fn with_origin(rest: &Rest, mut area: InArea) -> InArea
+    ensures { result ≡ with_origin rest.now area }
 {
-    area.set(InField::Date, message.stamp.date());
-    area.set(InField::Time, message.stamp.time());
-    area.set(InField::Source, &message.source.field());
+    let stamp = rest.stamp();
+    area.set(InField::Date, stamp.date());
+    area.set(InField::Time, stamp.time());
+    area.set(InField::Source, &rest.source().field());
     area
 }
 
@@ -65,7 +80,7 @@ fn with_portion(length: &[u8; 4], end_key: &[u8; 1], mut area: InArea) -> InArea
 {
     area.set(InField::Length, length);
     area.set(InField::EndKey, end_key);
-    area.set(InField::Status, b"00");
+    area.set(InField::Status, &Status::S00.bytes());
     area
 }
 
@@ -77,15 +92,4 @@ fn four_digits(n: usize) -> [u8; 4]
     let mut bytes = [b'0'; 4];
     digits(n as u64, &mut bytes);
     bytes
-}
-
-/// The end key of a message that is given to its end.
-fn last_key(end: End) -> &'static [u8; 1]
-    ensures key { result.now ≡ last_key end }
-    ensures text { IsText result.now }
-{
-    match end {
-        End::Emi => b"2",
-        End::Egi => b"3",
-    }
 }

@@ -24,26 +24,36 @@ const WRITE_FAILED: u8 = 7;
 
 const SCRIPT_REFUSED: u8 = 8;
 
-/// Does the command of these words, which stand after the program's name, and answers the exit status:
+/// Does the command of these words, which stand after the program's name, and answers the exit
+/// status:
 ///
 /// - 0: the script's calls were done, and the journal, the transcript and the summary were written.
 /// - 1: memory ran out.
-/// - 2: the words are not `replay NET SCRIPT`. A file word is not empty and does not begin with `-`.
+/// - 2: the words are not `replay NET SCRIPT`. A file word is not empty and does not begin with
+///   `-`.
 /// - 3: the description NET is refused.
 /// - 5: a file could not be read.
 /// - 7: a write of the outputs failed.
-/// - 8: SCRIPT is refused: too long, a bad header, or a line that is no call or whose call is not allowed.
+/// - 8: SCRIPT is refused: too long, a bad header, or a line that is no call or whose call is not
+///   allowed.
 ///
-/// With 2, 3, 5 and 8 one line is written to standard output and nothing else; a failure of that write
-/// leaves the status. Every opened file is closed.
+/// With 2, 3, 5 and 8 one line is written to standard output and nothing else; a failure of that
+/// write leaves the status. Every opened file is closed.
 pub fn tool<S: Store>(alloc: Global, words: &[String], store: &mut S) -> u8
-    ensures replayed { result ≡ 0 → OfReplay (map string_bytes words.now) (HasReplayed (S.shows store.old) (S.shows store.new)) }
-    ensures memory { result ≡ 1 → IsOutOfMemory (map string_bytes words.now) (S.shows store.old) (S.shows store.new) }
-    ensures usage { result ≡ 2 → IsUsage (map string_bytes words.now) (S.shows store.old) (IsReported (S.shows store.new)) }
-    ensures description { result ≡ 3 → OfReplay (map string_bytes words.now) (IsDescriptionRefused (S.shows store.old) (IsReported (S.shows store.new))) }
-    ensures unread { result ≡ 5 → OfReplay (map string_bytes words.now) (IsFileUnread (S.shows store.old) (IsReported (S.shows store.new))) }
-    ensures stopped { result ≡ 7 → OfReplay (map string_bytes words.now) (HasStopped (S.shows store.old) (S.shows store.new)) }
-    ensures script { result ≡ 8 → OfReplay (map string_bytes words.now) (IsScriptRefused (S.shows store.old) (IsReported (S.shows store.new))) }
+    ensures replayed { result ≡ 0 → OfReplay (map string_bytes words.now)
+        (HasReplayed (S.shows store.old) (S.shows store.new)) }
+    ensures memory { result ≡ 1 → IsOutOfMemory (map string_bytes words.now) (S.shows store.old)
+        (S.shows store.new) }
+    ensures usage { result ≡ 2 → IsUsage (map string_bytes words.now) (S.shows store.old)
+        (IsReported (S.shows store.new)) }
+    ensures description { result ≡ 3 → OfReplay (map string_bytes words.now)
+        (IsDescriptionRefused (S.shows store.old) (IsReported (S.shows store.new))) }
+    ensures unread { result ≡ 5 → OfReplay (map string_bytes words.now)
+        (IsFileUnread (S.shows store.old) (IsReported (S.shows store.new))) }
+    ensures stopped { result ≡ 7 → OfReplay (map string_bytes words.now)
+        (HasStopped (S.shows store.old) (S.shows store.new)) }
+    ensures script { result ≡ 8 → OfReplay (map string_bytes words.now)
+        (IsScriptRefused (S.shows store.old) (IsReported (S.shows store.new))) }
     ensures statuses { IsTrue (is_status result) }
     ensures pending { (S.shows store.new).pending ≡ (S.shows store.old).pending }
 {
@@ -55,21 +65,28 @@ pub fn tool<S: Store>(alloc: Global, words: &[String], store: &mut S) -> u8
     }
 }
 
-/// Does the command of these words, as [`tool`] does, for the commands that are built so far: none of
-/// them starts a thread or asks what time it is.
+/// Does the command of these words, as [`tool`] does, for the commands that are built so far: none
+/// of them starts a thread or asks what time it is.
 pub fn mcs<S: Store, C: Clock + Sync>(
     alloc: Global,
     words: &[String],
     store: &mut S,
     _clock: &C,
 ) -> u8
-    ensures replayed { result ≡ 0 → OfReplay (map string_bytes words.now) (HasReplayed (S.shows store.old) (S.shows store.new)) }
-    ensures memory { result ≡ 1 → IsOutOfMemory (map string_bytes words.now) (S.shows store.old) (S.shows store.new) }
-    ensures usage { result ≡ 2 → IsUsage (map string_bytes words.now) (S.shows store.old) (IsReported (S.shows store.new)) }
-    ensures description { result ≡ 3 → OfReplay (map string_bytes words.now) (IsDescriptionRefused (S.shows store.old) (IsReported (S.shows store.new))) }
-    ensures unread { result ≡ 5 → OfReplay (map string_bytes words.now) (IsFileUnread (S.shows store.old) (IsReported (S.shows store.new))) }
-    ensures stopped { result ≡ 7 → OfReplay (map string_bytes words.now) (HasStopped (S.shows store.old) (S.shows store.new)) }
-    ensures script { result ≡ 8 → OfReplay (map string_bytes words.now) (IsScriptRefused (S.shows store.old) (IsReported (S.shows store.new))) }
+    ensures replayed { result ≡ 0 → OfReplay (map string_bytes words.now)
+        (HasReplayed (S.shows store.old) (S.shows store.new)) }
+    ensures memory { result ≡ 1 → IsOutOfMemory (map string_bytes words.now) (S.shows store.old)
+        (S.shows store.new) }
+    ensures usage { result ≡ 2 → IsUsage (map string_bytes words.now) (S.shows store.old)
+        (IsReported (S.shows store.new)) }
+    ensures description { result ≡ 3 → OfReplay (map string_bytes words.now)
+        (IsDescriptionRefused (S.shows store.old) (IsReported (S.shows store.new))) }
+    ensures unread { result ≡ 5 → OfReplay (map string_bytes words.now)
+        (IsFileUnread (S.shows store.old) (IsReported (S.shows store.new))) }
+    ensures stopped { result ≡ 7 → OfReplay (map string_bytes words.now)
+        (HasStopped (S.shows store.old) (S.shows store.new)) }
+    ensures script { result ≡ 8 → OfReplay (map string_bytes words.now)
+        (IsScriptRefused (S.shows store.old) (IsReported (S.shows store.new))) }
     ensures statuses { IsTrue (is_status result) }
     ensures pending { (S.shows store.new).pending ≡ (S.shows store.old).pending }
 {
@@ -77,8 +94,10 @@ pub fn mcs<S: Store, C: Clock + Sync>(
 }
 
 fn command<'a, S: Store>(alloc: Global, words: &'a [String], store: &mut S) -> Result<(), Fault<'a>>
-    ensures ok { OnOk result (OfReplay (map string_bytes words.now) (HasReplayed (S.shows store.old) (S.shows store.new))) }
-    ensures err { IfErr result (IsCommandFault (map string_bytes words.now) (S.shows store.old) (S.shows store.new)) }
+    ensures ok { OnOk result (OfReplay (map string_bytes words.now)
+        (HasReplayed (S.shows store.old) (S.shows store.new))) }
+    ensures err { IfErr result
+        (IsCommandFault (map string_bytes words.now) (S.shows store.old) (S.shows store.new)) }
     ensures pending { (S.shows store.new).pending ≡ (S.shows store.old).pending }
 {
     let Some((net_file, script_file)) = replay_files(words) else {
@@ -89,8 +108,10 @@ fn command<'a, S: Store>(alloc: Global, words: &'a [String], store: &mut S) -> R
 
 /// The two file words of `replay`.
 fn replay_files(words: &[String]) -> Option<(&str, &str)>
-    ensures found { IfSome result (λ files. IsReplay (map string_bytes words.now) files.0.now files.1.now) }
-    ensures other { IfNone result ((net_file script_file : List ℕ) → IsReplay (map string_bytes words.now) net_file script_file → ⊥) }
+    ensures found { IfSome result
+        (λ files. IsReplay (map string_bytes words.now) files.0.now files.1.now) }
+    ensures other { IfNone result ((net_file script_file : List ℕ) → IsReplay
+        (map string_bytes words.now) net_file script_file → ⊥) }
 {
     let [word, net_file, script_file] = words else {
         return None;
@@ -119,8 +140,10 @@ fn is_file_word(word: &String) -> bool
 /// Writes the report of a refusal, and answers its status.
 fn refuse<S: Store>(alloc: Global, refusal: Refusal<'_>, store: &mut S) -> u8
     ensures status { (result ≡ 1) ⊎ (result ≡ status_of refusal.entry) }
-    ensures told { result ≡ status_of refusal.entry → IsReported (S.shows store.new) (S.shows store.old) (report_of refusal.entry) }
-    ensures memory { result ≡ 1 → IsCutReport (S.shows store.new) (S.shows store.old) (report_of refusal.entry) }
+    ensures told { result ≡ status_of refusal.entry → IsReported (S.shows store.new)
+        (S.shows store.old) (report_of refusal.entry) }
+    ensures memory { result ≡ 1 → IsCutReport (S.shows store.new) (S.shows store.old)
+        (report_of refusal.entry) }
     ensures pending { (S.shows store.new).pending ≡ (S.shows store.old).pending }
 {
     let Ok(report) = report_of(alloc, &refusal) else {

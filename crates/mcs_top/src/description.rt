@@ -15,7 +15,8 @@ use toml::Table;
 /// The network that the bytes describe; None where they describe none.
 pub fn read(alloc: Global, bytes: &[u8]) -> Result<Option<Net>, AllocError>
     ensures some { IfOk result (λ found. IfSome found (Describes bytes.now)) }
-    ensures none { IfOk result (λ found. IfNone found ((net : NetRecord) → Describes bytes.now net → ⊥)) }
+    ensures none { IfOk result
+        (λ found. IfNone found ((net : NetRecord) → Describes bytes.now net → ⊥)) }
 {
     match toml::table_from_slice(alloc, bytes) {
         Ok(document) => net_of_document(alloc, &document),
@@ -72,7 +73,8 @@ fn has_version_one(document: &Table) -> bool
 }
 
 fn queue_at(alloc: Global, document: &Table) -> Result<Option<Queue>, AllocError>
-    ensures { IfOk result (λ found. found ≡ option_and_then queue_of (table_at (codes "queue") (table_view document.now))) }
+    ensures { IfOk result (λ found. found ≡ option_and_then queue_of
+        (table_at (codes "queue") (table_view document.now))) }
 {
     match table_at(document, "queue") {
         Some(table) => queue_of(alloc, table),
@@ -100,7 +102,8 @@ fn terminal_at(
     queue: &Name,
     document: &Table,
 ) -> Result<Option<Terminal>, AllocError>
-    ensures { IfOk result (λ found. found ≡ option_and_then (terminal_of queue.now) (table_at (codes "terminal") (table_view document.now))) }
+    ensures { IfOk result (λ found. found ≡ option_and_then (terminal_of queue.now)
+        (table_at (codes "terminal") (table_view document.now))) }
 {
     match table_at(document, "terminal") {
         Some(table) => terminal_of(alloc, queue, table),
@@ -143,7 +146,8 @@ fn is_this(text: &[u8], found: Option<&str>) -> bool
 }
 
 fn unit_at(alloc: Global, document: &Table) -> Result<Option<RunUnit>, AllocError>
-    ensures { IfOk result (λ found. found ≡ option_and_then unit_of (table_at (codes "unit") (table_view document.now))) }
+    ensures { IfOk result (λ found. found ≡ option_and_then unit_of
+        (table_at (codes "unit") (table_view document.now))) }
 {
     match table_at(document, "unit") {
         Some(table) => unit_of(alloc, table),

@@ -1,6 +1,6 @@
 //! Calls on the message control system, and what they are answered.
 use com_cd::InArea;
-use com_msg::{RawMessage, Stamp};
+use com_msg::{Kind, RawMessage, Stamp};
 use com_text::{Name, Text};
 
 /// Who makes a call.
@@ -15,8 +15,8 @@ pub enum Party {
 pub enum Call {
     /// A run unit begins.
     Start,
-    /// RECEIVE MESSAGE with NO DATA, for at most `size` characters.
-    Receive { area: InArea, size: u32 },
+    /// RECEIVE with NO DATA, of a message or a segment, for at most `size` characters.
+    Receive { area: InArea, kind: Kind, size: u32 },
     /// A terminal's message is whole.
     Arrive { stamp: Stamp, message: RawMessage },
 }
@@ -26,10 +26,12 @@ pub enum Call {
 pub enum Reply {
     /// The unit runs.
     Started,
-    /// A message's text, and the area that tells of it.
+    /// A portion's text, and the area that tells of it.
     Given { area: InArea, text: Text },
     /// Nothing waits, and the area tells so.
     NoData { area: InArea },
+    /// The area names no queue, and tells so.
+    Refused { area: InArea },
     /// The number of the message among all arrivals, from 1.
     Arrived { number: u64 },
 }

@@ -23,10 +23,14 @@ pub enum ReadFault {
 
 /// The bytes of a file to its end, or to one past the limit. The file is closed again in any case.
 pub fn read_file<S: Store>(alloc: Global, store: &mut S, name: &str) -> Result<Vec<u8>, ReadFault>
-    ensures read { IfOk result (λ bytes. IsRead name.now bytes.items (S.shows store.old) (S.shows store.new)) }
-    ensures not_opened { IsErrOf result ReadFault.NotOpened → IsUnopened (S.shows store.old) (S.shows store.new) }
-    ensures failed { IsErrOf result ReadFault.Failed → IsUnreadable (S.shows store.old) (S.shows store.new) }
-    ensures memory { IsErrOf result ReadFault.Memory → IsUnwritten (S.shows store.old) (S.shows store.new) }
+    ensures read { IfOk result
+        (λ bytes. IsRead name.now bytes.items (S.shows store.old) (S.shows store.new)) }
+    ensures not_opened { IsErrOf result ReadFault.NotOpened → IsUnopened (S.shows store.old)
+        (S.shows store.new) }
+    ensures failed { IsErrOf result ReadFault.Failed → IsUnreadable (S.shows store.old)
+        (S.shows store.new) }
+    ensures memory { IsErrOf result ReadFault.Memory → IsUnwritten (S.shows store.old)
+        (S.shows store.new) }
 {
     let mut source = match store.open(name) {
         Ok(source) => source,
@@ -40,9 +44,11 @@ pub fn read_file<S: Store>(alloc: Global, store: &mut S, name: &str) -> Result<V
 
 /// The bytes of a source to its end, or to one past the limit.
 fn read_to_limit<R: Source>(alloc: Global, source: &mut R) -> Result<Vec<u8>, ReadFault>
-    ensures read { IfOk result (λ bytes. IfSome (R.left source.old) (HasReadAll bytes.items (R.left source.new))) }
+    ensures read { IfOk result
+        (λ bytes. IfSome (R.left source.old) (HasReadAll bytes.items (R.left source.new))) }
     ensures kept { OnOk result (R.faults source.new ≡ R.faults source.old) }
-    ensures failed { IsErrOf result ReadFault.Failed → Rose (R.faults source.old) (R.faults source.new) }
+    ensures failed { IsErrOf result ReadFault.Failed → Rose (R.faults source.old)
+        (R.faults source.new) }
     ensures opened { IsErrOf result ReadFault.NotOpened → ⊥ }
     ensures memory { IsErrOf result ReadFault.Memory → R.faults source.new ≡ R.faults source.old }
     ensures later { R.faults source.old ≤ R.faults source.new }
@@ -59,9 +65,12 @@ fn read_to_limit<R: Source>(alloc: Global, source: &mut R) -> Result<Vec<u8>, Re
 /// Reads some bytes behind those that were read, and answers how many.
 fn read_chunk<R: Source>(source: &mut R, bytes: &mut Vec<u8>) -> Result<usize, ReadFault>
     requires { length bytes.old.items ≤ file_limit }
-    ensures read { IfOk result (λ n. ReadsChunk n bytes.old.items bytes.new.items (R.left source.old) (R.left source.new)) }
+    ensures read { IfOk result
+        (λ n. ReadsChunk n bytes.old.items bytes.new.items (R.left source.old)
+        (R.left source.new)) }
     ensures kept { OnOk result (R.faults source.new ≡ R.faults source.old) }
-    ensures failed { IsErrOf result ReadFault.Failed → Rose (R.faults source.old) (R.faults source.new) }
+    ensures failed { IsErrOf result ReadFault.Failed → Rose (R.faults source.old)
+        (R.faults source.new) }
     ensures opened { IsErrOf result ReadFault.NotOpened → ⊥ }
     ensures memory { IsErrOf result ReadFault.Memory → R.faults source.new ≡ R.faults source.old }
     ensures later { R.faults source.old ≤ R.faults source.new }

@@ -2,11 +2,12 @@
 ghost use Rattle.std.specs.Prelude.{◌≡◌, ◌++◌, length, decimal, IfOk, OnOk};
 ghost use Rattle.std.specs.List.{All};
 ghost use Rattle.com_text.specs.Counted.{IsCountable};
-ghost use Rattle.mcs_top.specs.Journal.{IsJournal, HaveTexts, end_word};
-ghost use Rattle.mcs_top.specs.Writing.{party_words, call_words, stamp_words, message_words, segment_fields, reply_words, entry_words, AreCountable, IsCountableReply, IsWritable};
+ghost use Rattle.mcs_top.specs.Journal.{IsJournal, HaveTexts, end_word, kind_word};
+ghost use Rattle.mcs_top.specs.Writing.{party_words, call_words, receive_words, stamp_words, message_words, segment_fields, reply_words, entry_words, AreCountable, IsCountableReply, IsWritable};
 
 use crate::events::{Call, Entry, Party, Reply};
-use com_msg::{End, RawMessage, Stamp};
+use com_cd::InArea;
+use com_msg::{End, Kind, RawMessage, Stamp};
 use com_text::{Rows, Text, put_counted, put_number};
 use std::alloc::{AllocError, Global};
 
@@ -57,16 +58,31 @@ fn put_call(out: &mut Rows<u8>, call: &Call) -> Result<(), AllocError>
 {
     match call {
         Call::Start => out.extend_from_slice(b" START"),
-        Call::Receive { area, size } => {
-            out.extend_from_slice(b" RECEIVE MESSAGE ")?;
-            put_number(out, u64::from(*size))?;
-            out.extend_from_slice(b" NODATA ")?;
-            put_counted(out, area.as_bytes())
-        }
+        Call::Receive { area, kind, size } => put_receive(out, area, *kind, *size),
         Call::Arrive { stamp, message } => {
             put_stamp(out, stamp)?;
             put_message(out, message)
         }
+    }
+}
+
+fn put_receive(out: &mut Rows<u8>, area: &InArea, kind: Kind, size: u32) -> Result<(), AllocError>
+    ensures { OnOk result (out.new ≡ out.old ++ receive_words area.now kind size) }
+{
+    out.extend_from_slice(b" RECEIVE ")?;
+    out.extend_from_slice(kind_word(kind))?;
+    out.extend_from_slice(b" ")?;
+    put_number(out, u64::from(size))?;
+    out.extend_from_slice(b" NODATA ")?;
+    put_counted(out, area.as_bytes())
+}
+
+fn kind_word(kind: Kind) -> &'static [u8; 7]
+    ensures { result.now ≡ kind_word kind }
+{
+    match kind {
+        Kind::Message => b"MESSAGE",
+        Kind::Segment => b"SEGMENT",
     }
 }
 
@@ -101,7 +117,8 @@ fn end_word(end: End) -> &'static [u8; 3]
 /// The number of segments, and a counted field for each.
 fn put_segments(out: &mut Rows<u8>, segments: &[Text]) -> Result<(), AllocError>
     requires { All IsCountable segments.now }
-    ensures { OnOk result (out.new ≡ out.old ++ (decimal (length segments.now) ++ segment_fields segments.now)) }
+    ensures { OnOk result
+        (out.new ≡ out.old ++ (decimal (length segments.now) ++ segment_fields segments.now)) }
 {
     put_number(out, segments.len() as u64)?;
     for segment in segments {
@@ -125,6 +142,10 @@ fn put_reply(out: &mut Rows<u8>, reply: &Reply) -> Result<(), AllocError>
         }
         Reply::NoData { area } => {
             out.extend_from_slice(b"NONE ")?;
+            put_counted(out, area.as_bytes())
+        }
+        Reply::Refused { area } => {
+            out.extend_from_slice(b"REFUSED ")?;
             put_counted(out, area.as_bytes())
         }
         Reply::Arrived { number } => put_number(out, *number),

@@ -1,7 +1,7 @@
 //! What a run writes.
 ghost use Rattle.std.specs.Prelude.{◌≡◌, ◌++◌, map, option_map, string_bytes, IfOk, OnOk, OnErr, IsOk, IsErrOf, count_by};
 ghost use Rattle.com_io.specs.Faults.{HasCause};
-ghost use Rattle.mcs_top.specs.Outputs.{arrivals, portions, is_arrival, is_portion, party_line, count_line, count_lines, summary, transcript_name, all_written, IsPartlyWritten};
+ghost use Rattle.mcs_top.specs.Outputs.{arrivals, portions, is_arrival, is_portion, party_line, count_line, count_lines, summary, transcript_name, contents_after, IsPartlyWritten};
 ghost use Rattle.mcs_top.specs.Journal.{HaveTexts};
 ghost use Rattle.mcs_top.specs.Writes.{write_of, writes_of, AreTextsOf};
 
@@ -50,10 +50,14 @@ impl Texts {
 
     /// Writes the journal, the transcript and the summary, up to the first write that fails.
     pub fn write<S: Store>(&self, store: &mut S) -> Result<(), StoreFault>
-        ensures ok { OnOk result ((S.shows store.new).contents ≡ option_map (all_written (writes_of self.now)) (S.shows store.old).contents) }
-        ensures err { OnErr result (IsPartlyWritten (writes_of self.now) (S.shows store.old).contents (S.shows store.new).contents) }
-        ensures cause { HasCause (S.shows store.old).write_faults (S.shows store.new).write_faults (IsOk result) (IsErrOf result StoreFault.Failed) }
-        ensures memory { IsErrOf result StoreFault.Memory → (S.shows store.new).write_faults ≡ (S.shows store.old).write_faults }
+        ensures ok { OnOk result ((S.shows store.new).contents ≡ option_map
+            (contents_after (writes_of self.now)) (S.shows store.old).contents) }
+        ensures err { OnErr result (IsPartlyWritten (writes_of self.now)
+            (S.shows store.old).contents (S.shows store.new).contents) }
+        ensures cause { HasCause (S.shows store.old).write_faults (S.shows store.new).write_faults
+            (IsOk result) (IsErrOf result StoreFault.Failed) }
+        ensures memory { IsErrOf result StoreFault.Memory → (S.shows store.new).write_faults
+            ≡ (S.shows store.old).write_faults }
         ensures open_faults { (S.shows store.new).open_faults ≡ (S.shows store.old).open_faults }
         ensures read_faults { (S.shows store.new).read_faults ≡ (S.shows store.old).read_faults }
         ensures pending { (S.shows store.new).pending ≡ (S.shows store.old).pending }
@@ -78,10 +82,14 @@ impl Texts {
 
 /// Writes all of these, in order, up to the first that fails.
 fn write_all<S: Store>(store: &mut S, outputs: &[Output<'_>]) -> Result<(), StoreFault>
-    ensures ok { OnOk result ((S.shows store.new).contents ≡ option_map (all_written (map write_of outputs.now)) (S.shows store.old).contents) }
-    ensures err { OnErr result (IsPartlyWritten (map write_of outputs.now) (S.shows store.old).contents (S.shows store.new).contents) }
-    ensures cause { HasCause (S.shows store.old).write_faults (S.shows store.new).write_faults (IsOk result) (IsErrOf result StoreFault.Failed) }
-    ensures memory { IsErrOf result StoreFault.Memory → (S.shows store.new).write_faults ≡ (S.shows store.old).write_faults }
+    ensures ok { OnOk result ((S.shows store.new).contents ≡ option_map
+        (contents_after (map write_of outputs.now)) (S.shows store.old).contents) }
+    ensures err { OnErr result (IsPartlyWritten (map write_of outputs.now)
+        (S.shows store.old).contents (S.shows store.new).contents) }
+    ensures cause { HasCause (S.shows store.old).write_faults (S.shows store.new).write_faults
+        (IsOk result) (IsErrOf result StoreFault.Failed) }
+    ensures memory { IsErrOf result StoreFault.Memory → (S.shows store.new).write_faults
+        ≡ (S.shows store.old).write_faults }
     ensures open_faults { (S.shows store.new).open_faults ≡ (S.shows store.old).open_faults }
     ensures read_faults { (S.shows store.new).read_faults ≡ (S.shows store.old).read_faults }
     ensures pending { (S.shows store.new).pending ≡ (S.shows store.old).pending }

@@ -44,8 +44,10 @@ pub fn replay<'a, S: Store>(
     script_file: &'a str,
     store: &mut S,
 ) -> Result<(), Fault<'a>>
-    ensures ok { OnOk result (HasReplayed (S.shows store.old) (S.shows store.new) net_file.now script_file.now) }
-    ensures err { IfErr result (HasFailed net_file.now script_file.now (S.shows store.old) (S.shows store.new)) }
+    ensures ok { OnOk result
+        (HasReplayed (S.shows store.old) (S.shows store.new) net_file.now script_file.now) }
+    ensures err { IfErr result
+        (HasFailed net_file.now script_file.now (S.shows store.old) (S.shows store.new)) }
     ensures pending { (S.shows store.new).pending ≡ (S.shows store.old).pending }
 {
     let net = read_net(alloc, net_file, store)?;
@@ -76,9 +78,11 @@ fn perform_file<'a, S: Store>(
     script_file: &'a str,
     store: &mut S,
 ) -> Result<Rows<Entry>, Fault<'a>>
-    ensures ok { IfOk result (IsScriptDone script_file.now net.now (S.shows store.old) (S.shows store.new)) }
+    ensures ok { IfOk result
+        (IsScriptDone script_file.now net.now (S.shows store.old) (S.shows store.new)) }
     ensures texts { IfOk result HaveTexts }
-    ensures err { IfErr result (IsScriptFault script_file.now net.now (S.shows store.old) (S.shows store.new)) }
+    ensures err { IfErr result
+        (IsScriptFault script_file.now net.now (S.shows store.old) (S.shows store.new)) }
     ensures pending { (S.shows store.new).pending ≡ (S.shows store.old).pending }
 {
     let script = read_named(alloc, script_file, store)?;
@@ -96,7 +100,8 @@ fn read_named<'a, S: Store>(
     name: &'a str,
     store: &mut S,
 ) -> Result<Vec<u8>, Fault<'a>>
-    ensures ok { IfOk result (λ bytes. IsRead name.now bytes.items (S.shows store.old) (S.shows store.new)) }
+    ensures ok { IfOk result
+        (λ bytes. IsRead name.now bytes.items (S.shows store.old) (S.shows store.new)) }
     ensures err { IfErr result (IsNotReadFor name.now (S.shows store.old) (S.shows store.new)) }
     ensures pending { (S.shows store.new).pending ≡ (S.shows store.old).pending }
 {
@@ -114,8 +119,10 @@ fn write_history<'a, S: Store>(
     store: &mut S,
 ) -> Result<(), Fault<'a>>
     requires { HaveTexts history.now }
-    ensures ok { OnOk result (HasWritten net.now history.now (S.shows store.old) (S.shows store.new)) }
-    ensures err { IfErr result (IsWriteFault net.now history.now (S.shows store.old) (S.shows store.new)) }
+    ensures ok { OnOk result
+        (HasWritten net.now history.now (S.shows store.old) (S.shows store.new)) }
+    ensures err { IfErr result
+        (IsWriteFault net.now history.now (S.shows store.old) (S.shows store.new)) }
     ensures pending { (S.shows store.new).pending ≡ (S.shows store.old).pending }
 {
     let Ok(texts) = Texts::new(alloc, net, history) else {

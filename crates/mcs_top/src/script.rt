@@ -2,7 +2,7 @@
 ghost use Rattle.std.specs.Prelude.{◌≡◌, ◌<◌, ◌≤◌, ◌∷◌, length, IfOk, IfErr, OnOk};
 ghost use Rattle.std.specs.List.{position, position_or_len};
 ghost use Rattle.mcs_top.specs.System.{Legal};
-ghost use Rattle.mcs_top.specs.SystemState.{state_of};
+ghost use Rattle.mcs_top.specs.SystemState.{state_of, HasSegments};
 ghost use Rattle.mcs_top.specs.Journal.{HaveTexts};
 ghost use Rattle.mcs_top.specs.Files.{file_limit};
 ghost use Rattle.mcs_top.specs.Script.{MakesCallsOf, AreCalls, lines_of, is_line_feed};
@@ -116,7 +116,10 @@ fn perform_line(
     history: &mut Rows<Entry>,
     line: &[u8],
 ) -> Result<(), LineFault>
-    ensures done { OnOk result (DoesLine line.now history.old history.new (state_of system.old) (state_of system.new)) }
+    requires { HasSegments (state_of system.old) }
+    ensures done { OnOk result
+        (DoesLine line.now history.old history.new (state_of system.old) (state_of system.new)) }
+    ensures segments { OnOk result (HasSegments (state_of system.new)) }
     ensures refused { IfErr result (IsLineRefused (state_of system.old) line.now) }
 {
     let Ok(found) = call_text::read(alloc, line) else {
@@ -127,7 +130,6 @@ fn perform_line(
     };
     let reply = match system.apply(&party, &call) {
         Ok(reply) => reply,
-        Err(CallFault::NotYet) => return Err(LineFault::NotYet),
         Err(CallFault::NotAllowed) => return Err(LineFault::NotAllowed),
         Err(CallFault::Memory) => return Err(LineFault::Memory),
     };
@@ -139,7 +141,8 @@ fn perform_line(
 
 /// The first line without its line feed, and what stands behind it.
 fn next_line(bytes: &[u8]) -> (&[u8], &[u8])
-    ensures lines { 0 < length bytes.now → lines_of bytes.now ≡ result.0.now ∷ lines_of result.1.now }
+    ensures lines { 0 < length bytes.now →
+        lines_of bytes.now ≡ result.0.now ∷ lines_of result.1.now }
     ensures shorter { 0 < length bytes.now → length result.1.now < length bytes.now }
 {
     let (line, rest) = bytes.split_at(line_length(bytes));

@@ -1,17 +1,15 @@
 //! The message control system as one machine, for one terminal, one queue and one run unit.
-ghost use Rattle.std.specs.Prelude.{◌≡◌, ◌≢◌, ◌↔◌, Err, IsTrue, false};
+ghost use Rattle.std.specs.Prelude.{◌≡◌, ◌≤◌, length, option_map, None, OnOk, IfOk, IfErr, IfSome, IfNone};
 ghost use Rattle.mcs_top.specs.declared.events.Party.TheVariants as party;
 ghost use Rattle.mcs_top.specs.declared.events.Call.TheVariants as made;
-ghost use Rattle.mcs_top.specs.declared.system.CallFault.TheVariants.{NotYet};
-ghost use Rattle.mcs_top.specs.System.{opening, is_to_come, is_dormant, is_running, is_longer, may_do_verb};
-ghost use Rattle.mcs_top.specs.SystemState.{state_of, DoesStep, HasSize};
+ghost use Rattle.mcs_top.specs.System.{opening, is_dormant, is_running, may_do_verb, give, next_rest, rest_held};
+ghost use Rattle.mcs_top.specs.SystemState.{state_of, DoesStep, IsWellFormed, HasSegment, HasSegments};
 
-use crate::areas::{given_area, is_named, no_data_area};
+use crate::areas::{given_area, is_named, no_data_area, refused_area};
 use crate::events::{Call, Party, Reply};
 use crate::net::Net;
-use crate::segments::{are_longer, joined};
 use com_cd::InArea;
-use com_msg::{Message, RawMessage, Stamp};
+use com_msg::{Kind, Message, RawMessage, Rest, Stamp};
 use com_text::Name;
 use std::alloc::{AllocError, Global};
 use std::collections::VecDeque;
@@ -32,8 +30,6 @@ pub enum Mode {
 /// Why a call was not done.
 #[derive(Clone, Copy, Debug, PartialEq, Eq)]
 pub enum CallFault {
-    /// It is one of the cases that are still to come.
-    NotYet,
     /// The system does not allow it in this state.
     NotAllowed,
     Memory,
@@ -45,65 +41,46 @@ pub struct System<'a> {
     alloc: Global,
     net: &'a Net,
     waiting: VecDeque<Message>,
+    /// What is left of the message that the unit has begun to receive.
+    held: Option<Rest>,
     arrivals: u64,
     unit: Mode,
     verbs: u64,
 }
 
 impl<'a> System<'a> {
+    /// The system in its opening state.
     pub fn new(alloc: Global, net: &'a Net) -> Self
-        ensures { state_of result ≡ opening net.now }
+        ensures opening { state_of result ≡ opening net.now }
     {
         System {
             alloc,
             net,
             waiting: VecDeque::new(alloc),
+            held: None,
             arrivals: 0,
             unit: Mode::Dormant,
             verbs: 0,
         }
     }
 
-    /// Does a call, where it is allowed. After an error the state is not to be used.
+    /// Does a call, where it is allowed. After want of memory the state is not to be used.
     pub fn apply(&mut self, party: &Party, call: &Call) -> Result<Reply, CallFault>
-        requires { HasSize call.now }
+        requires call { IsWellFormed call.now }
+        requires segments { HasSegments (state_of self.old) }
         ensures step { DoesStep (state_of self.old) party.now call.now result (state_of self.new) }
-        ensures not_yet { (result ≡ Err NotYet) ↔ IsTrue (is_to_come (state_of self.old) call.now) }
+        ensures segments { OnOk result (HasSegments (state_of self.new)) }
     {
-        if self.is_to_come(call) {
-            return Err(CallFault::NotYet);
-        }
         match party {
             Party::Unit(unit) => match call {
                 Call::Start => self.start(unit),
-                Call::Receive { area, size } => self.receive(unit, area, *size),
+                Call::Receive { area, kind, size } => self.receive(unit, area, *kind, *size),
                 Call::Arrive { .. } => Err(CallFault::NotAllowed),
             },
             Party::Terminal(terminal) => match call {
                 Call::Arrive { stamp, message } => self.arrive(terminal, *stamp, message),
                 Call::Start | Call::Receive { .. } => Err(CallFault::NotAllowed),
             },
-        }
-    }
-
-    /// Whether a RECEIVE is of the cases that are still to come.
-    fn is_to_come(&self, call: &Call) -> bool
-        ensures { result ≡ is_to_come (state_of self.now) call.now }
-    {
-        match call {
-            Call::Receive { area, size } => {
-                !is_named(&self.net.queue.name, area) || self.is_first_longer(*size)
-            }
-            Call::Start | Call::Arrive { .. } => false,
-        }
-    }
-
-    fn is_first_longer(&self, size: u32) -> bool
-        ensures { result ≡ is_longer (state_of self.now).waiting size }
-    {
-        match self.waiting.front() {
-            Some(message) => are_longer(message.segments.as_slice(), size as usize),
-            None => false,
         }
     }
 
@@ -129,8 +106,10 @@ impl<'a> System<'a> {
     }
 
     fn start(&mut self, unit: &Name) -> Result<Reply, CallFault>
-        ensures step { DoesStep (state_of self.old) (party.Unit unit.now) made.Start result (state_of self.new) }
-        ensures built { result ≢ Err NotYet }
+        requires { HasSegments (state_of self.old) }
+        ensures step { DoesStep (state_of self.old) (party.Unit unit.now) made.Start result
+            (state_of self.new) }
+        ensures segments { OnOk result (HasSegments (state_of self.new)) }
     {
         if unit.as_bytes() != self.net.unit.name.as_bytes() || !self.is_dormant() {
             return Err(CallFault::NotAllowed);
@@ -139,29 +118,82 @@ impl<'a> System<'a> {
         Ok(Reply::Started)
     }
 
-    fn receive(&mut self, unit: &Name, area: &InArea, size: u32) -> Result<Reply, CallFault>
-        requires size { HasSize (made.Receive area.now size) }
-        requires built { is_to_come (state_of self.old) (made.Receive area.now size) ≡ false }
-        ensures step { DoesStep (state_of self.old) (party.Unit unit.now) (made.Receive area.now size) result (state_of self.new) }
-        ensures built { result ≢ Err NotYet }
+    fn receive(
+        &mut self,
+        unit: &Name,
+        area: &InArea,
+        kind: Kind,
+        size: u32,
+    ) -> Result<Reply, CallFault>
+        requires size { (1 ≤ size) × (size ≤ 2000) }
+        requires segments { HasSegments (state_of self.old) }
+        ensures step { DoesStep (state_of self.old) (party.Unit unit.now)
+            (made.Receive area.now kind size) result (state_of self.new) }
+        ensures segments { OnOk result (HasSegments (state_of self.new)) }
     {
         if !self.may_do_verb(unit) {
             return Err(CallFault::NotAllowed);
         }
-        match self.waiting.pop_front() {
-            Some(message) => {
-                let text = joined(self.alloc, &message.segments).map_err(|_| CallFault::Memory)?;
-                let area = given_area(&self.net.queue.name, &message, text.as_bytes().len(), area);
-                self.verbs += 1;
-                Ok(Reply::Given { area, text })
-            }
-            None => {
-                self.verbs += 1;
-                Ok(Reply::NoData {
-                    area: no_data_area(area),
-                })
-            }
+        self.verbs += 1;
+        if !is_named(&self.net.queue.name, area) {
+            return Ok(Reply::Refused {
+                area: refused_area(area),
+            });
         }
+        match self.next_rest() {
+            Some(rest) => self.give(rest, area, kind, size),
+            None => Ok(Reply::NoData {
+                area: no_data_area(area),
+            }),
+        }
+    }
+
+    /// Takes out what a RECEIVE goes on with: the rest that the unit holds, or else the message
+    /// that came first.
+    fn next_rest(&mut self) -> Option<Rest>
+        requires { HasSegments (state_of self.old) }
+        ensures rest { option_map (λ rest. (rest, (state_of self.new).waiting)) result ≡ next_rest
+            (state_of self.old).held (state_of self.old).waiting }
+        ensures left { state_of self.new ≡ record (state_of self.old)
+            { waiting = (state_of self.new).waiting; held = None } }
+        ensures none { IfNone result (state_of self.new ≡ state_of self.old) }
+        ensures segments { HasSegments (state_of self.new) }
+        ensures some { IfSome result HasSegment }
+    {
+        match self.held.take() {
+            Some(rest) => Some(rest),
+            None => match self.waiting.pop_front() {
+                Some(message) => Some(Rest::of(message)),
+                None => None,
+            },
+        }
+    }
+
+    /// Gives one portion of a rest, and holds what is left of it.
+    fn give(
+        &mut self,
+        mut rest: Rest,
+        area: &InArea,
+        kind: Kind,
+        size: u32,
+    ) -> Result<Reply, CallFault>
+        requires size { (1 ≤ size) × (size ≤ 2000) }
+        requires segment { HasSegment rest }
+        requires segments { HasSegments (state_of self.old) }
+        ensures given { IfOk result (λ reply. (reply, state_of self.new)
+            ≡ give (state_of self.old) area.now kind size rest) }
+        ensures segments { OnOk result (HasSegments (state_of self.new)) }
+        ensures memory { IfErr result (λ fault. fault ≡ CallFault.Memory) }
+    {
+        let Ok(portion) = rest.take(kind, size) else {
+            return Err(CallFault::Memory);
+        };
+        let area = given_area(&self.net.queue.name, &rest, &portion, area);
+        self.held = unspent(rest);
+        Ok(Reply::Given {
+            area,
+            text: portion.text,
+        })
     }
 
     fn arrive(
@@ -170,8 +202,11 @@ impl<'a> System<'a> {
         stamp: Stamp,
         message: &RawMessage,
     ) -> Result<Reply, CallFault>
-        ensures step { DoesStep (state_of self.old) (party.Terminal terminal.now) (made.Arrive stamp message.now) result (state_of self.new) }
-        ensures built { result ≢ Err NotYet }
+        requires message { 1 ≤ length message.now.segments }
+        requires segments { HasSegments (state_of self.old) }
+        ensures step { DoesStep (state_of self.old) (party.Terminal terminal.now)
+            (made.Arrive stamp message.now) result (state_of self.new) }
+        ensures segments { OnOk result (HasSegments (state_of self.new)) }
     {
         let may = terminal.as_bytes() == self.net.terminal.name.as_bytes()
             && self.arrivals < MAX_ARRIVALS;
@@ -193,4 +228,11 @@ impl<'a> System<'a> {
         self.arrivals = number;
         Ok(Reply::Arrived { number })
     }
+}
+
+/// A rest that is to be held: one with nothing left is dropped.
+fn unspent(rest: Rest) -> Option<Rest>
+    ensures { result ≡ rest_held rest rest.segments }
+{
+    if rest.is_spent() { None } else { Some(rest) }
 }

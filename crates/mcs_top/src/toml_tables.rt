@@ -29,14 +29,18 @@ fn is_among(key: &str, keys: &[&str]) -> bool
     keys.iter().any(|known| *known == key)
 }
 
+/// The value at a key.
 pub fn value_at<'a>(table: &'a Table, key: &str) -> Option<&'a Value>
-    ensures { option_map (λ value. view value.now) result ≡ get_member key.now (table_view table.now) }
+    ensures { option_map (λ value. view value.now) result ≡ get_member key.now
+        (table_view table.now) }
 {
     table.get(key)
 }
 
+/// The string at a key, where its value is one.
 pub fn text_at<'a>(table: &'a Table, key: &str) -> Option<&'a str>
-    ensures { option_map (λ text. text.now) result ≡ option_and_then as_str (get_member key.now (table_view table.now)) }
+    ensures { option_map (λ text. text.now) result ≡ option_and_then as_str
+        (get_member key.now (table_view table.now)) }
 {
     match value_at(table, key) {
         Some(value) => value.as_str(),
@@ -46,7 +50,8 @@ pub fn text_at<'a>(table: &'a Table, key: &str) -> Option<&'a str>
 
 /// The table at a key that has an array of one table.
 pub fn table_at<'a>(table: &'a Table, key: &str) -> Option<&'a Table>
-    ensures { option_map (λ found. table_view found.now) result ≡ table_at key.now (table_view table.now) }
+    ensures { option_map (λ found. table_view found.now) result ≡ table_at key.now
+        (table_view table.now) }
 {
     match only_element(table, key) {
         Some(value) => value.as_table(),
@@ -66,7 +71,8 @@ pub fn element_at<'a>(table: &'a Table, key: &str) -> Option<&'a str>
 
 /// The value at a key that has an array of one value.
 fn only_element<'a>(table: &'a Table, key: &str) -> Option<&'a Value>
-    ensures { option_map (λ value. view value.now) result ≡ only_element key.now (table_view table.now) }
+    ensures { option_map (λ value. view value.now) result ≡ only_element key.now
+        (table_view table.now) }
 {
     match value_at(table, key) {
         Some(value) => match value.as_array() {
@@ -87,6 +93,7 @@ fn only_of(values: &[Value]) -> Option<&Value>
     }
 }
 
+/// The name at a key, where its value is a string that is one.
 pub fn name_at(table: &Table, key: &str) -> Option<Name>
     ensures { result ≡ string_at is_name key.now (table_view table.now) }
 {
@@ -96,6 +103,7 @@ pub fn name_at(table: &Table, key: &str) -> Option<Name>
     }
 }
 
+/// The password at a key, where its value is a string that is one.
 pub fn password_at(alloc: Global, table: &Table, key: &str) -> Result<Option<Text>, AllocError>
     ensures { IfOk result (λ found. found ≡ string_at is_password key.now (table_view table.now)) }
 {
@@ -111,6 +119,7 @@ pub fn password_at(alloc: Global, table: &Table, key: &str) -> Result<Option<Tex
     }
 }
 
+/// The file name at a key, where its value is a string that is one.
 pub fn file_name_at(alloc: Global, table: &Table, key: &str) -> Result<Option<Text>, AllocError>
     ensures { IfOk result (λ found. found ≡ string_at is_file_name key.now (table_view table.now)) }
 {

@@ -11,4 +11,5 @@ loop-rest-preserved c =
       done = done_more c.args.net.now c.args.lines.now c.loop-rest.rest.now c.next_line.result.1.now c.next_line.result.0.now c.loop-rest.history c.perform_line.new.history
           (state_of c.loop-rest.system) (state_of c.perform_line.new.system) c.loop-rest.number c.loop-rest.invariant.done (c.next_line.ensures.lines some) c.in_default.ensures.done;
       few = omega (arith, c.next_line.ensures.shorter some);
+      segments = c.in_default.ensures.segments;
     }

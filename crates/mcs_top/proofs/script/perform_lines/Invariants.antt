@@ -1,5 +1,5 @@
 use Rattle.std.proofs.Common.{◌+◌, ◌≤◌, length}
-use Rattle.mcs_top.specs.SystemState.{state_of}
+use Rattle.mcs_top.specs.SystemState.{state_of, HasSegments}
 use Rattle.mcs_top.specs.Performing.{HasDone}
 use Rattle.mcs_top.proofs.script.perform_lines.Given as goal
 
@@ -8,6 +8,7 @@ abbrev pub invariant-loop-rest : goal.invariant-loop-rest
 invariant-loop-rest l = record {
   done : HasDone l.net l.fn.lines l.rest l.history (state_of l.system) l.number;
   few : l.number + length l.rest ≤ length l.fn.lines + 1;
+  segments : HasSegments (state_of l.system);
 }
 
 abbrev pub decreases-loop-rest : goal.decreases-loop-rest

@@ -1,0 +1,14 @@
+-- The values of STATUS KEY.
+use Rattle.std.specs.Prelude.{ℕ, List, codes}
+use Rattle.com_cd.specs.declared.status.Status.{Status}
+use Rattle.com_cd.specs.declared.status.Status.TheVariants.{S00, S10, S20, S30, S40, S50, S60}
+
+-- the two characters of a value
+abbrev pub status_bytes : Status → List ℕ
+status_bytes S00 = codes "00"
+status_bytes S10 = codes "10"
+status_bytes S20 = codes "20"
+status_bytes S30 = codes "30"
+status_bytes S40 = codes "40"
+status_bytes S50 = codes "50"
+status_bytes S60 = codes "60"
