@@ -1,6 +1,6 @@
 //! The area of an input CD.
-use com_cd::{InArea, InField};
-use com_text::is_text;
+use com_cd::{Designation, InArea, InField, Status};
+use com_text::{Name, NamePath, is_text};
 use std::test::Fail;
 
 const AREA: &[u8; 87] =
@@ -83,4 +83,67 @@ fn a_field_is_written_and_no_other(rt: HostRuntime) {
     let want =
         b"                                                00000000000000            0000020000000";
     assert_eq!(rt; area.as_bytes(), want.as_slice());
+}
+
+/// The designation of an area that begins with these four fields.
+fn designation_of(fields: &[u8; 48]) -> Option<Designation> {
+    let mut bytes = *AREA;
+    bytes[..48].copy_from_slice(fields);
+    Some(InArea::read(&bytes)?.designation())
+}
+
+#[test]
+fn a_queue_alone_is_a_path_of_one_name(rt: HostRuntime) -> Result<(), Fail> {
+    let designation = designation_of(b"Q1                                              ");
+    let path = NamePath::new(Name::new(b"Q1").ok_or("no name")?);
+    assert!(rt; designation == Some(Designation::Path(path)));
+    Ok(())
+}
+
+#[test]
+fn four_names_are_a_path(rt: HostRuntime) -> Result<(), Fail> {
+    let area = InArea::read(AREA).ok_or("no area")?;
+    let Designation::Path(path) = area.designation() else {
+        return Err("no path".into());
+    };
+    let [queue, a, b, c] = path.names() else {
+        return Err("not four names".into());
+    };
+    assert_eq!(rt; queue.as_bytes(), b"QUEUE-1".as_slice());
+    assert_eq!(rt; a.as_bytes(), b"SUB-A".as_slice());
+    assert_eq!(rt; b.as_bytes(), b"SUB-B".as_slice());
+    assert_eq!(rt; c.as_bytes(), b"SUB-C".as_slice());
+    Ok(())
+}
+
+#[test]
+fn names_that_designate_no_path_are_malformed(rt: HostRuntime) {
+    for fields in [
+        b"                                                ",
+        b"            SUB-A                               ",
+        b"Q1                      X                       ",
+        b"Q1 X                                            ",
+        b"Q1          S1 X                                ",
+        b" Q1                                             ",
+        b"q1                                              ",
+        b"Q1          s1                                  ",
+        b"Q1                                             X",
+    ] {
+        assert!(rt; designation_of(fields) == Some(Designation::Malformed));
+    }
+}
+
+#[test]
+fn each_status_has_its_characters(rt: HostRuntime) {
+    for (status, want) in [
+        (Status::S00, b"00"),
+        (Status::S10, b"10"),
+        (Status::S20, b"20"),
+        (Status::S30, b"30"),
+        (Status::S40, b"40"),
+        (Status::S50, b"50"),
+        (Status::S60, b"60"),
+    ] {
+        assert_eq!(rt; status.bytes(), *want, "at {status:?}");
+    }
 }

@@ -12,6 +12,8 @@ mod names;
 #[cfg(test)]
 mod numbers;
 #[cfg(test)]
+mod rests;
+#[cfg(test)]
 mod sources;
 #[cfg(test)]
 mod stores;

@@ -4,7 +4,7 @@ use com_text::{Name, Rows, Text};
 use std::alloc::Global;
 use std::test::Fail;
 
-// The segments ONE and TWO.
+/// The segments ONE and TWO.
 fn two_segments(alloc: Global) -> Result<Rows<Text>, Fail> {
     let mut segments = Rows::new(alloc);
     segments

@@ -3,12 +3,12 @@ use com_io::{Clock, Failed, FixedClock, MemorySource, Source};
 use com_msg::Stamp;
 use std::test::Fail;
 
-// The stamp of a moment of any clock.
+/// The stamp of a moment of any clock.
 fn moment_of<C: Clock>(clock: &C) -> Stamp {
     clock.now()
 }
 
-// How many bytes two reads of any source give.
+/// How many bytes two reads of any source give.
 fn count_of_two<S: Source>(source: &mut S, into: &mut [u8]) -> Result<(usize, usize), Failed> {
     let first = source.read(into)?;
     let second = source.read(into)?;

@@ -2,7 +2,7 @@
 use com_io::{Failed, MemoryStore, Source, Store, StoreFault};
 use std::test::Fail;
 
-// The first byte of a file of any store.
+/// The first byte of a file of any store.
 fn first_byte<S: Store>(store: &mut S, name: &str) -> Result<u8, StoreFault> {
     let mut source = store.open(name)?;
     let mut into = [b'?'; 1];

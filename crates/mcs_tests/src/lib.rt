@@ -2,7 +2,11 @@
 #![tactic(auto)]
 
 #[cfg(test)]
+mod arrivals;
+#[cfg(test)]
 mod lines;
+#[cfg(test)]
+mod portions;
 #[cfg(test)]
 mod reports;
 #[cfg(test)]

@@ -17,8 +17,8 @@ pub fn assert_refused<A: Abort>(
     Ok(())
 }
 
-// Asserts that a line behind the header is the text of no call that is built so far.
-fn assert_not_yet<A: Abort>(rt: &A, alloc: Global, line: &[u8]) -> Result<(), Fail> {
+/// Asserts that a line behind the header is the text of no call that is built so far.
+pub fn assert_not_yet<A: Abort>(rt: &A, alloc: Global, line: &[u8]) -> Result<(), Fail> {
     let mut script = Vec::from_slice(alloc, b"MCS-SCRIPT 1\n")?;
     script.extend_from_slice(line)?;
     script.push(b'\n')?;
@@ -54,23 +54,6 @@ fn a_call_of_another_party_is_not_allowed(rt: HostRuntime) -> Result<(), Fail> {
 }
 
 #[test]
-fn a_receive_of_another_queue_is_not_yet(rt: HostRuntime) -> Result<(), Fail> {
-    let script = b"MCS-SCRIPT 1\n\
-        U ECHO START\n\
-        U ECHO RECEIVE MESSAGE 20 NODATA 87:Q2                                              00000000000000            0000000000000\n";
-    assert_refused(&rt, rt.alloc(), script, b"script refused: line 3 NOTYET\n")
-}
-
-#[test]
-fn a_receive_of_a_longer_message_is_not_yet(rt: HostRuntime) -> Result<(), Fail> {
-    let script = b"MCS-SCRIPT 1\n\
-        T T1 ARRIVE 740601 10203000 EMI 1 5:HELLO\n\
-        U ECHO START\n\
-        U ECHO RECEIVE MESSAGE 4 NODATA 87:Q1                                              00000000000000            0000000000000\n";
-    assert_refused(&rt, rt.alloc(), script, b"script refused: line 4 NOTYET\n")
-}
-
-#[test]
 fn a_script_with_no_header_is_refused(rt: HostRuntime) -> Result<(), Fail> {
     let report = b"script refused: line 1 TEXT\n";
     assert_refused(&rt, rt.alloc(), b"U ECHO START\n", report)?;
@@ -83,8 +66,11 @@ fn a_script_with_no_header_is_refused(rt: HostRuntime) -> Result<(), Fail> {
 fn a_call_that_is_not_built_is_not_yet(rt: HostRuntime) -> Result<(), Fail> {
     let lines = [
         b"U ECHO STOP RUN".as_slice(),
-        b"U ECHO RECEIVE SEGMENT 20 NODATA 87:Q1                                              00000000000000            0000000000000".as_slice(),
         b"U ECHO RECEIVE MESSAGE 20 WAIT 87:Q1                                              00000000000000            0000000000000".as_slice(),
+        b"U ECHO RECEIVE SEGMENT 20 WAIT 87:Q1                                              00000000000000            0000000000000".as_slice(),
+        b"U ECHO RECEIVE GROUP 20 NODATA 87:Q1                                              00000000000000            0000000000000".as_slice(),
+        b"U ECHO RECEIVE 20 NODATA 87:Q1                                              00000000000000            0000000000000".as_slice(),
+        b"U ECHO RECEIVE MESSAGE SEGMENT 20 NODATA 87:Q1                                              00000000000000            0000000000000".as_slice(),
         b"U ECHO ARRIVE 740601 10203000 EMI 1 5:HELLO".as_slice(),
         b"T T1 START".as_slice(),
     ];
@@ -101,6 +87,11 @@ fn a_bad_size_of_a_receive_is_not_yet(rt: HostRuntime) -> Result<(), Fail> {
         b"U ECHO RECEIVE MESSAGE 0 NODATA 87:Q1                                              00000000000000            0000000000000".as_slice(),
         b"U ECHO RECEIVE MESSAGE 2001 NODATA 87:Q1                                              00000000000000            0000000000000".as_slice(),
         b"U ECHO RECEIVE MESSAGE  NODATA 87:Q1                                              00000000000000            0000000000000".as_slice(),
+        b"U ECHO RECEIVE SEGMENT 05 NODATA 87:Q1                                              00000000000000            0000000000000".as_slice(),
+        b"U ECHO RECEIVE SEGMENT 0 NODATA 87:Q1                                              00000000000000            0000000000000".as_slice(),
+        b"U ECHO RECEIVE SEGMENT 2001 NODATA 87:Q1                                              00000000000000            0000000000000".as_slice(),
+        b"U ECHO RECEIVE SEGMENT  NODATA 87:Q1                                              00000000000000            0000000000000".as_slice(),
+        b"U ECHO RECEIVE SEGMENT 18446744073709551617 NODATA 87:Q1                                              00000000000000            0000000000000".as_slice(),
     ];
     for line in lines {
         assert_not_yet(&rt, rt.alloc(), line)?;
@@ -183,7 +174,6 @@ fn a_bad_count_of_a_segment_is_not_yet(rt: HostRuntime) -> Result<(), Fail> {
 #[test]
 fn bad_segments_of_an_arrival_are_not_yet(rt: HostRuntime) -> Result<(), Fail> {
     let lines = [
-        b"T T1 ARRIVE 740601 10203000 EMI 2 1:A 1:B".as_slice(),
         b"T T1 ARRIVE 740601 10203000 EMI 0".as_slice(),
         b"T T1 ARRIVE 740601 10203000 ESI 1 5:HELLO".as_slice(),
         b"T T1 ARRIVE 740601 10203000 EMI 1 5:HE\x7FLO".as_slice(),
@@ -191,6 +181,54 @@ fn bad_segments_of_an_arrival_are_not_yet(rt: HostRuntime) -> Result<(), Fail> {
     for line in lines {
         assert_not_yet(&rt, rt.alloc(), line)?;
     }
+    Ok(())
+}
+
+#[test]
+fn a_bad_number_of_segments_is_not_yet(rt: HostRuntime) -> Result<(), Fail> {
+    let lines = [
+        b"T T1 ARRIVE 740601 10203000 EMI 01 5:HELLO".as_slice(),
+        b"T T1 ARRIVE 740601 10203000 EMI 10000 5:HELLO".as_slice(),
+        b"T T1 ARRIVE 740601 10203000 EMI 2 5:HELLO".as_slice(),
+        b"T T1 ARRIVE 740601 10203000 EMI 1 1:A 1:B".as_slice(),
+        b"T T1 ARRIVE 740601 10203000 EMI 1".as_slice(),
+        b"T T1 ARRIVE 740601 10203000 EMI 0 5:HELLO".as_slice(),
+        b"T T1 ARRIVE 740601 10203000 EMI  5:HELLO".as_slice(),
+        b"T T1 ARRIVE 740601 10203000 EMI -1 5:HELLO".as_slice(),
+    ];
+    for line in lines {
+        assert_not_yet(&rt, rt.alloc(), line)?;
+    }
+    Ok(())
+}
+
+#[test]
+fn a_bad_layout_of_segments_is_not_yet(rt: HostRuntime) -> Result<(), Fail> {
+    let lines = [
+        b"T T1 ARRIVE 740601 10203000 EMI 2 1:A  1:B".as_slice(),
+        b"T T1 ARRIVE 740601 10203000 EMI 2  1:A 1:B".as_slice(),
+        b"T T1 ARRIVE 740601 10203000 EMI 2 1:A 1:B ".as_slice(),
+        b"T T1 ARRIVE 740601 10203000 EMI 2 1:A1:B".as_slice(),
+        b"T T1 ARRIVE 740601 10203000 EMI 2 2:A 1:B".as_slice(),
+        b"T T1 ARRIVE 740601 10203000 EMI 2 1:A 2:B".as_slice(),
+        b"T T1 ARRIVE 740601 10203000 EMI 2 01:A 1:B".as_slice(),
+        b"T T1 ARRIVE 740601 10203000 EMI 2 1:A 1:\x1F".as_slice(),
+        b"T T1 ARRIVE 740601 10203000 EMI 1 ".as_slice(),
+        b"T T1 ARRIVE 740601 10203000 EMI 1 18446744073709551617:A".as_slice(),
+    ];
+    for line in lines {
+        assert_not_yet(&rt, rt.alloc(), line)?;
+    }
+    Ok(())
+}
+
+#[test]
+fn an_arrival_of_two_segments_is_accepted(rt: HostRuntime) -> Result<(), Fail> {
+    let script = b"MCS-SCRIPT 1\nT T1 ARRIVE 740601 10203000 EMI 2 1:A 1:B\n";
+    let journal = b"MCS-JOURNAL 1\nT T1 ARRIVE 740601 10203000 EMI 2 1:A 1:B = 1\n";
+    let mut store = store_of(rt.alloc(), NET, script)?;
+    assert_eq!(rt; replay(rt.alloc(), &mut store)?, 0);
+    assert_eq!(rt; store.out("journal.txt"), Some(journal.as_slice()));
     Ok(())
 }
 

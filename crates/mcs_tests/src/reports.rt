@@ -34,7 +34,7 @@ const FURTHER_KEY: &[u8] = b"colour = \"red\"\n\
     name = \"ECHO\"\n\
     source = \"echo.cob\"\n";
 
-// Asserts that the words are no command. Each file is there that they may name.
+/// Asserts that the words are no command. Each file is there that they may name.
 fn assert_usage<A: Abort>(rt: &A, alloc: Global, words: &[&str]) -> Result<(), Fail> {
     let mut store = store_of(alloc, NET, ONE_MESSAGE)?;
     store.put("-x", ONE_MESSAGE)?;
@@ -45,7 +45,7 @@ fn assert_usage<A: Abort>(rt: &A, alloc: Global, words: &[&str]) -> Result<(), F
     Ok(())
 }
 
-// Asserts that a file of the replay is not read.
+/// Asserts that a file of the replay is not read.
 fn assert_unread<A: Abort>(
     rt: &A,
     alloc: Global,

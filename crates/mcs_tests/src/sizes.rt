@@ -8,8 +8,8 @@ use std::test::Fail;
 /// One byte more than a file may have.
 const TOO_LONG: usize = 1_048_577;
 
-// Bytes of one kind behind others, to this length.
-fn filled(alloc: Global, front: &[u8], byte: u8, length: usize) -> Result<Vec<u8>, AllocError> {
+/// Bytes of one kind behind others, to this length.
+pub fn filled(alloc: Global, front: &[u8], byte: u8, length: usize) -> Result<Vec<u8>, AllocError> {
     let mut all = Vec::from_slice(alloc, front)?;
     all.resize(length, byte)?;
     Ok(all)
