@@ -47,7 +47,7 @@ abbrev pub set_in : InField → List ℕ → List ℕ → List ℕ
 set_in field area value =
     take (start_of field) area ++ value ++ drop (start_of field + width_of field) area
 
--- so many digits 0
+-- the digit 0, `n` times
 abbrev pub zeros : ℕ → List ℕ
 zeros n = replicate n 48
 

@@ -1,4 +1,5 @@
 pub mod InputArea
+pub mod OutputArea
 pub mod Designation
 pub mod Status
 pub use Rattle.com_text.specs.Name

@@ -3,8 +3,10 @@
 
 mod designation;
 mod input_area;
+mod output_area;
 mod status;
 
 pub use designation::Designation;
 pub use input_area::{IN_AREA_LENGTH, InArea, InField};
+pub use output_area::{MAX_OCCURRENCES, MAX_OUT_AREA_LENGTH, OutArea, OutField};
 pub use status::{STATUS_LENGTH, Status};

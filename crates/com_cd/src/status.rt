@@ -19,7 +19,7 @@ pub enum Status {
     S30,
     /// 40: the key is wrong.
     S40,
-    /// 50: TEXT LENGTH is past the item that is sent.
+    /// 50: TEXT LENGTH is not four digits, or is past the item that is sent.
     S50,
     /// 60: the portion that is sent has no characters.
     S60,

@@ -2,7 +2,7 @@
 use Rattle.std.specs.Prelude.{ℕ, ◌≤◌, List, [], ◌∷◌, length, drop, get_or}
 use Rattle.com_msg.specs.declared.rest.Place.{Place}
 
--- the pieces with the first characters of the first one left out, so many
+-- the pieces without the first `taken` characters of the first one
 abbrev pub cut_first : ℕ → List (List ℕ) → List (List ℕ)
 cut_first taken [] = []
 cut_first taken (piece ∷ pieces) = drop taken piece ∷ pieces

@@ -27,8 +27,8 @@ pub record IsEndKey (key : ℕ) : Type 0 where
 abbrev pub portion_of : List ℕ → ℕ → Portion
 portion_of text key = record { text = text; end_key = key }
 
--- The pieces without their first characters, so many. Once no character is due, nothing more
--- leaves, not even an empty piece.
+-- The pieces without their first `n` characters. Once no character is due, nothing more leaves, not
+-- even an empty piece.
 abbrev pub drop_characters : ℕ → List (List ℕ) → List (List ℕ)
 drop_characters zero pieces = pieces
 drop_characters (suc n) [] = []
@@ -36,7 +36,7 @@ drop_characters (suc n) (piece ∷ pieces) =
     if nat_le (length piece) (suc n) then drop_characters (suc n - length piece) pieces
     else drop (suc n) piece ∷ pieces
 
--- MESSAGE: the first characters of the joined pieces, so many, or all where there are not more
+-- MESSAGE: the first `size` characters of the joined pieces, or all where there are not more
 abbrev pub message_portion : ℕ → End → List (List ℕ) → Portion × List (List ℕ)
 message_portion size end pieces =
     if nat_le (length (concat pieces)) size then (portion_of (concat pieces) (last_key end), [])
@@ -47,7 +47,7 @@ abbrev pub key_before : List (List ℕ) → End → ℕ
 key_before [] end = last_key end
 key_before (piece ∷ pieces) end = segment_key
 
--- SEGMENT: the first characters of the first piece, so many, or all where there are not more
+-- SEGMENT: the first `size` characters of the first piece, or all where there are not more
 abbrev pub segment_portion : ℕ → End → List (List ℕ) → Portion × List (List ℕ)
 segment_portion size end [] = (portion_of [] (last_key end), [])
 segment_portion size end (piece ∷ pieces) =

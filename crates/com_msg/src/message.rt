@@ -39,7 +39,7 @@ pub struct Message {
 }
 
 impl RawMessage {
-    /// An equal message. Err where memory is wanting.
+    /// An equal message. Err if memory runs out.
     pub fn copy(&self) -> Result<RawMessage, AllocError>
         ensures { IfOk result (λ message. message ≡ self.now) }
     {

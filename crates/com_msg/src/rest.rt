@@ -92,7 +92,7 @@ impl Rest {
     }
 
     /// Hands out the next characters, `size` of them at most: of the whole message, or of its
-    /// next segment alone. Err where memory is wanting; the rest then stays as it was.
+    /// next segment alone. Err if memory runs out; the rest then stays as it was.
     pub fn take(&mut self, kind: Kind, size: u32) -> Result<Portion, AllocError>
         requires unspent { 1 ≤ length self.old.segments }
         requires size { 1 ≤ size }
@@ -205,7 +205,7 @@ fn first_characters(
 }
 
 /// Whether the joined pieces have more characters than `reach`.
-fn is_longer(pieces: &[Text], reach: usize) -> bool
+pub fn is_longer(pieces: &[Text], reach: usize) -> bool
     ensures { result ≡ nat_lt reach (length (concat pieces.now)) }
 {
     let mut due = reach;

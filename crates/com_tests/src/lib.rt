@@ -6,13 +6,19 @@ mod areas;
 #[cfg(test)]
 mod folders;
 #[cfg(test)]
+mod frames;
+#[cfg(test)]
 mod messages;
 #[cfg(test)]
 mod names;
 #[cfg(test)]
 mod numbers;
 #[cfg(test)]
+mod output_areas;
+#[cfg(test)]
 mod rests;
+#[cfg(test)]
+mod sendings;
 #[cfg(test)]
 mod sources;
 #[cfg(test)]

@@ -3,7 +3,7 @@ use Rattle.std.specs.Prelude.{ℕ, zero, suc, ◌+◌, ◌/◌, ◌%◌, ◌≤�
 use Rattle.std.specs.Str.{all_ascii_digits}
 use Rattle.std.specs.Str.Parse.{digits_value}
 
--- a number in so many digits, with leading zeros
+-- a number in `width` digits, with leading zeros
 abbrev pub in_digits : ℕ → ℕ → List ℕ
 in_digits n zero = []
 in_digits n (suc width) = in_digits (n / 10) width ++ (48 + n % 10) ∷ []

@@ -11,7 +11,7 @@ is_text bytes = list_all is_text_byte bytes
 abbrev pub IsText : List ℕ → Type 0
 IsText bytes = IsTrue (is_text bytes)
 
--- the byte at this place is none of a text, and all before it are
+-- the byte at this place is no text byte, and all before it are
 pub record IsFirstBadByte (bytes : List ℕ) (at : ℕ) : Type 0 where
   pub within : at < length bytes
   pub bad : ¬ IsTrue (is_text_byte (slice_index bytes at))

@@ -65,7 +65,8 @@ fn count_of(digits: &[u8]) -> Option<usize>
 }
 
 /// Whether there are more digits than one, and the first is a zero.
-fn has_leading_zero(digits: &[u8]) -> bool
+/// Whether digits have a zero at their front that is not alone.
+pub fn has_leading_zero(digits: &[u8]) -> bool
     ensures { IsTrue result ↔ HasLeadingZero digits.now }
 {
     digits.len() > 1 && digits[0] == b'0'

@@ -8,7 +8,7 @@ mod name_path;
 mod rows;
 mod text;
 
-pub use counted::{MAX_COUNTED, put_counted, take_counted};
+pub use counted::{MAX_COUNTED, has_leading_zero, put_counted, take_counted};
 pub use decimal::{MAX_DIGITS, digits, number_of, put_number};
 pub use name::{FIELD_LENGTH, Field, Name};
 pub use name_path::{MAX_NAMES, NamePath};

@@ -15,7 +15,7 @@ use Rattle.mcs_top.specs.Failing.{IsNetFault, IsScriptFault, HasWritten, HasPart
 told_then_unwritten : (before mid after : Option Contents) (name bytes : List ℕ)
     → IfSome before (λ c. (file : List ℕ) × (map.get c.files name ≡ Some file) × (bytes ≡ bytes_read file)
     × (mid ≡ Some (with_closing (record { left = length file - length bytes; failed = false }) c)))
-    → IfSome mid (λ c. IsSomeAnd after (λ d. d.outs ≡ c.outs)) → IfSome before (λ c. IsSomeAnd after (λ d. d.outs ≡ c.outs))
+    → IfSome mid (λ c. IsSomeAnd after (λ d. (d.outs ≡ c.outs) × (d.files ≡ c.files))) → IfSome before (λ c. IsSomeAnd after (λ d. (d.outs ≡ c.outs) × (d.files ≡ c.files)))
 told_then_unwritten None mid after name bytes told h = tt
 told_then_unwritten (Some c) mid after name bytes told h = rw told.3 at h
 

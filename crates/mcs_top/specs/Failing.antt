@@ -77,18 +77,18 @@ IsWriteFault net history before after Write =
 abbrev pub IsDue : Shown → List ℕ → Shown → List ℕ → Type 0
 IsDue now report tried text = (tried ≡ now) × (text ≡ report)
 
-abbrev pub IsRefusal : List ℕ → List ℕ → Shown → Shown → Refusal → Type 0
-IsRefusal net_file script_file before tried Usage = ⊥
-IsRefusal net_file script_file before tried Description =
+abbrev pub IsReplayRefusal : List ℕ → List ℕ → Shown → Shown → Refusal → Type 0
+IsReplayRefusal net_file script_file before tried Usage = ⊥
+IsReplayRefusal net_file script_file before tried Description =
     IsDescriptionRefused before (IsDue tried description_report) net_file script_file
-IsRefusal net_file script_file before tried (Unread name) =
+IsReplayRefusal net_file script_file before tried (Unread name) =
     IsFileUnread before (IsDue tried (unreadable_report name.now)) net_file script_file
-IsRefusal net_file script_file before tried (Script line reason) =
+IsReplayRefusal net_file script_file before tried (Script line reason) =
     IsScriptRefused before (IsDue tried (script_report line reason)) net_file script_file
 
 abbrev pub HasFailed : List ℕ → List ℕ → Shown → Shown → Fault → Type 0
 HasFailed net_file script_file before after (Refused refusal) =
-    IsRefusal net_file script_file before after refusal
+    IsReplayRefusal net_file script_file before after refusal
 HasFailed net_file script_file before after Memory =
     IsUnwritten before after ⊎ HasRunShort before after net_file script_file
 HasFailed net_file script_file before after Write = HasStopped before after net_file script_file

@@ -47,7 +47,8 @@ pub record HasNoFault (before after : Shown) : Type 0 where
 
 -- nothing was written, as many sources are open as before, and no fault was counted
 pub record IsUnwritten (before after : Shown) : Type 0 where
-  pub outs : IfSome before.contents (λ c. IsSomeAnd after.contents (λ d. d.outs ≡ c.outs))
+  pub outs : IfSome before.contents (λ c. IsSomeAnd after.contents
+      (λ d. (d.outs ≡ c.outs) × (d.files ≡ c.files)))
   pub pending : after.pending ≡ before.pending
   pub open_faults : after.open_faults ≡ before.open_faults
   pub read_faults : after.read_faults ≡ before.read_faults

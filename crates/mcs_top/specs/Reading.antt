@@ -37,7 +37,7 @@ split_word bytes = option_map (λ at. (take at bytes, drop (at + 1) bytes)) (pos
 abbrev pub until_space : List ℕ → Option (List ℕ × List ℕ)
 until_space bytes = option_map (λ at. (take at bytes, drop at bytes)) (position is_space bytes)
 
--- the first bytes, so many, and what stands behind them and a space
+-- the first `n` bytes, and what stands behind them and a space
 abbrev pub split_chunk : ℕ → List ℕ → Option (List ℕ × List ℕ)
 split_chunk n bytes =
     if nat_lt (length bytes) n then None
@@ -107,7 +107,7 @@ segment_of bytes = do
   segment ← split_counted field
   if nat_le (length segment.0) 2000 && is_text segment.0 then Some segment else None
 
--- so many segments, up to the end
+-- `n` segments, up to the end
 abbrev pub segments_of : ℕ → List ℕ → Option (List (List ℕ))
 segments_of zero [] = Some []
 segments_of zero (byte ∷ bytes) = None

@@ -12,7 +12,7 @@ pub record HasReadAll (bytes : List ℕ) (left : Option (List ℕ)) (file : List
   pub all : bytes ≡ bytes_read file
   pub rest : left ≡ Some (drop (length bytes) file)
 
--- so many bytes were read behind those before; none only at the end
+-- `n` bytes were read behind those before; none only at the end
 pub record ReadsChunk (n : ℕ) (before after : List ℕ) (left rest : Option (List ℕ)) : Type 0 where
   pub chunk : List ℕ
   pub many : length chunk ≡ n

@@ -55,6 +55,6 @@ IsRefused net script number NotAllowed =
     (length script ≤ file_limit) × IsFirstRefused net script number IsNotAllowed
 
 -- a script fault tells a line only where the line is refused
-abbrev pub IsRefusal : Net → List ℕ → ScriptFault → Type 0
-IsRefusal net script (Refused line reason) = IsRefused net script line reason
-IsRefusal net script Memory = Unit {0}
+abbrev pub TellsRefusedLine : Net → List ℕ → ScriptFault → Type 0
+TellsRefusedLine net script (Refused line reason) = IsRefused net script line reason
+TellsRefusedLine net script Memory = Unit {0}

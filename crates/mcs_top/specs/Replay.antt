@@ -87,19 +87,21 @@ abbrev pub HasRunShort : Shown → Shown → List ℕ → List ℕ → Type 0
 HasRunShort before after net_file script_file =
     IsCutShort before after net_file script_file × (after.write_faults ≡ before.write_faults)
 
--- From what the store showed then, this line was written to standard output, or a prefix of it
--- where that write failed; nothing else was written.
-abbrev pub IsReported : Shown → Shown → List ℕ → Type 0
-IsReported after tried report =
-    (after.contents ≡ option_map (with_output output_name report) tried.contents)
-    ⊎ (IsPartWritten output_name report tried.contents after.contents
-    × Rose tried.write_faults after.write_faults)
+-- What a report's write changed from what the store showed before it: it was written to standard
+-- output, or a prefix of it where that write failed; nothing else was written, and no other fault
+-- was counted.
+pub record IsReported (after tried : Shown) (report : List ℕ) : Type 0 where
+  pub written : ((after.contents ≡ option_map (with_output output_name report) tried.contents)
+      × (after.write_faults ≡ tried.write_faults))
+      ⊎ (IsPartWritten output_name report tried.contents after.contents
+      × Rose tried.write_faults after.write_faults)
+  pub open_faults : after.open_faults ≡ tried.open_faults
+  pub read_faults : after.read_faults ≡ tried.read_faults
 
--- A prefix of this line was written, or nothing, and no failed write was counted.
-abbrev pub IsCutReport : Shown → Shown → List ℕ → Type 0
-IsCutReport after tried report =
-    IsPartWritten output_name report tried.contents after.contents
-    × (after.write_faults ≡ tried.write_faults)
+-- A prefix of this line was written, or nothing, and no fault was counted.
+pub record IsCutReport (after tried : Shown) (report : List ℕ) : Type 0 where
+  pub written : IsPartWritten output_name report tried.contents after.contents
+  pub no_fault : HasNoFault tried after
 
 abbrev pub usage_report : List ℕ
 usage_report = codes "usage: mcs run NET, replay NET SCRIPT, check NET, show MODE FILE, load N\n"

@@ -9,9 +9,8 @@ use crate::fields::{
     behind, end_of, kind_of, number_up_to, split_chunk, split_counted, split_word, until_space,
     whole_counted,
 };
-use crate::segments::are_longer;
 use com_cd::InArea;
-use com_msg::{End, RawMessage, Stamp};
+use com_msg::{End, RawMessage, Stamp, is_longer};
 use com_text::{Name, Rows, Text, is_text};
 use std::alloc::{AllocError, Global};
 
@@ -99,7 +98,7 @@ fn terminal_call(alloc: Global, bytes: &[u8]) -> Result<Option<Call>, AllocError
     let Some(segments) = segments_of(alloc, count, fields)? else {
         return Ok(None);
     };
-    if are_longer(segments.as_slice(), MAX_MESSAGE) {
+    if is_longer(segments.as_slice(), MAX_MESSAGE) {
         return Ok(None);
     }
     let message = RawMessage { segments, end };
@@ -120,7 +119,7 @@ fn arrival_of(bytes: &[u8]) -> Option<(Stamp, End, u32, &[u8])>
     Some((stamp, end, count, fields))
 }
 
-/// So many segments, up to the end of the bytes.
+/// `count` segments, up to the end of the bytes.
 fn segments_of(alloc: Global, count: u32, fields: &[u8]) -> Result<Option<Rows<Text>>, AllocError>
     ensures { IfOk result (λ found. found ≡ segments_of count fields.now) }
 {

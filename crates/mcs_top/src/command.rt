@@ -116,20 +116,21 @@ fn replay_files(words: &[String]) -> Option<(&str, &str)>
     let [word, net_file, script_file] = words else {
         return None;
     };
-    if is_replay(word) && is_file_word(net_file) && is_file_word(script_file) {
-        return Some((net_file.as_str(), script_file.as_str()));
+    let (net_file, script_file) = (net_file.as_str(), script_file.as_str());
+    if is_replay(word.as_str()) && is_file_word(net_file) && is_file_word(script_file) {
+        return Some((net_file, script_file));
     }
     None
 }
 
-fn is_replay(word: &String) -> bool
-    ensures { IsTrue result ↔ string_bytes word.now ≡ codes "replay" }
+fn is_replay(word: &str) -> bool
+    ensures { IsTrue result ↔ (word.now ≡ codes "replay") }
 {
-    word.as_str() == "replay"
+    word == "replay"
 }
 
-fn is_file_word(word: &String) -> bool
-    ensures { result ≡ is_file_word (string_bytes word.now) }
+fn is_file_word(word: &str) -> bool
+    ensures { result ≡ is_file_word word.now }
 {
     match word.as_bytes() {
         [] => false,

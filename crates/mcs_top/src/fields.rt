@@ -1,11 +1,10 @@
 //! The parts of a line: words, chunks and counted fields.
-ghost use Rattle.std.specs.Prelude.{◌≡◌, ◌↔◌, ◌≤◌, IsTrue, IfSome, option_map};
+ghost use Rattle.std.specs.Prelude.{◌≡◌, ◌≤◌, IfSome, option_map};
 ghost use Rattle.std.specs.List.{position};
-ghost use Rattle.com_text.specs.Counted.{HasLeadingZero};
 ghost use Rattle.mcs_top.specs.Reading.{behind, is_space, split_word, until_space, split_chunk, number_up_to, whole_counted, split_counted, kind_of, end_of};
 
 use com_msg::{End, Kind};
-use com_text::{number_of, take_counted};
+use com_text::{has_leading_zero, number_of, take_counted};
 
 /// What follows these bytes at the front.
 pub fn behind<'a>(front: &[u8], bytes: &'a [u8]) -> Option<&'a [u8]>
@@ -106,10 +105,4 @@ fn first_space(bytes: &[u8]) -> Option<usize>
     ensures { result ≡ position is_space bytes.now }
 {
     bytes.iter().position(|byte| *byte == b' ')
-}
-
-fn has_leading_zero(digits: &[u8]) -> bool
-    ensures { IsTrue result ↔ HasLeadingZero digits.now }
-{
-    digits.len() > 1 && digits[0] == b'0'
 }

@@ -13,7 +13,6 @@ mod net;
 mod outputs;
 mod replay;
 mod script;
-mod segments;
 mod system;
 mod toml_tables;
 

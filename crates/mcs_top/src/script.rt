@@ -6,7 +6,7 @@ ghost use Rattle.mcs_top.specs.SystemState.{state_of, HasSegments};
 ghost use Rattle.mcs_top.specs.Journal.{HaveTexts};
 ghost use Rattle.mcs_top.specs.Files.{file_limit};
 ghost use Rattle.mcs_top.specs.Script.{MakesCallsOf, AreCalls, lines_of, is_line_feed};
-ghost use Rattle.mcs_top.specs.Refusal.{IsRefusal};
+ghost use Rattle.mcs_top.specs.Refusal.{TellsRefusedLine};
 ghost use Rattle.mcs_top.specs.Performing.{DoesLine, IsLineRefused, IsStopped, fault_at};
 
 use crate::call_text;
@@ -54,7 +54,7 @@ pub fn perform(alloc: Global, net: &Net, script: &[u8]) -> Result<Rows<Entry>, S
     ensures short { OnOk result (length script.now ≤ file_limit) }
     ensures legal { IfOk result (Legal net.now) }
     ensures texts { IfOk result HaveTexts }
-    ensures refused { IfErr result (IsRefusal net.now script.now) }
+    ensures refused { IfErr result (TellsRefusedLine net.now script.now) }
 {
     if script.len() > FILE_LIMIT {
         return Err(ScriptFault::Refused {

@@ -1,0 +1,48 @@
+//! Messages as they go to terminals.
+
+use crate::End;
+use com_text::{Rows, Text};
+
+/// How far a terminal advances, and whether before or behind a text.
+#[derive(Clone, Copy, Debug, PartialEq, Eq)]
+pub enum Advance {
+    /// The text stands before so many line feeds, 0 to 99.
+    Before(u8),
+    /// The text stands after so many line feeds, 0 to 99.
+    After(u8),
+    /// The text stands before a form feed.
+    BeforePage,
+    /// The text stands after a form feed.
+    AfterPage,
+}
+
+/// What the text of a SEND is a part of, and what it ends.
+#[derive(Clone, Copy, Debug, PartialEq, Eq)]
+pub enum Part {
+    /// A portion of a segment that goes on: no indicator follows it.
+    Portion,
+    /// It ends a segment, which is written with this advance.
+    Esi(Advance),
+    /// It ends a segment, written with this advance, and the message.
+    Emi(Advance),
+    /// It ends a segment, written with this advance, the message and its group.
+    Egi(Advance),
+}
+
+/// A segment of a message to a terminal.
+#[derive(Debug, Drop)]
+pub struct OutSegment {
+    /// Its characters.
+    pub text: Text,
+    /// How the terminal advances at it.
+    pub advance: Advance,
+}
+
+/// A message to a terminal: one or more segments and the end.
+#[derive(Debug, Drop)]
+pub struct OutMessage {
+    /// Its segments, in order.
+    pub segments: Rows<OutSegment>,
+    /// How it ends.
+    pub end: End,
+}
