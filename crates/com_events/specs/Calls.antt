@@ -1,0 +1,112 @@
+-- Which calls are well formed, and which entries have a text.
+use Rattle.std.specs.Prelude.{◌≡◌, ℕ, ◌+◌, ◌^◌, ◌<◌, ◌≤◌, List, [], ◌∷◌, length, Option, Some, None, IfSome}
+use Rattle.std.specs.List.{concat, AllByRecursion}
+use Rattle.com_text.specs.Text.{IsText}
+use Rattle.com_msg.specs.declared.framing.FrameFault.{FrameFault}
+use Rattle.com_msg.specs.declared.message.RawMessage.{RawMessage}
+use Rattle.com_msg.specs.declared.sending.Advance.{Advance}
+use Rattle.com_msg.specs.declared.sending.Advance.TheVariants.{Before, After, BeforePage, AfterPage}
+use Rattle.com_msg.specs.declared.sending.Part.{Part}
+use Rattle.com_msg.specs.declared.sending.Part.TheVariants as part
+use Rattle.com_events.specs.declared.call.Party.{Party}
+use Rattle.com_events.specs.declared.call.Party.TheVariants as party
+use Rattle.com_events.specs.declared.call.EndReason.{EndReason}
+use Rattle.com_events.specs.declared.call.EndReason.TheVariants as finish
+use Rattle.com_events.specs.declared.call.Call.{Call}
+use Rattle.com_events.specs.declared.call.Call.TheVariants.{Start, Receive, Count, Send, SwitchInput, SwitchOutput, Arrive, Held, Stop, Finish}
+use Rattle.com_events.specs.declared.reply.Reply.{Reply}
+use Rattle.com_events.specs.declared.reply.Reply.TheVariants.{Started, Given, NoData, Refused, Waits, AreaIn, AreaOut, Arrived, Done}
+use Rattle.com_events.specs.declared.entry.Entry.{Entry}
+
+-- at most 99 lines
+abbrev pub IsAdvance : Advance → Type 0
+IsAdvance (Before lines) = lines ≤ 99
+IsAdvance (After lines) = lines ≤ 99
+IsAdvance BeforePage = Unit {0}
+IsAdvance AfterPage = Unit {0}
+
+abbrev pub IsPart : Part → Type 0
+IsPart part.Portion = Unit {0}
+IsPart (part.Esi advance) = IsAdvance advance
+IsPart (part.Emi advance) = IsAdvance advance
+IsPart (part.Egi advance) = IsAdvance advance
+
+-- an item of 1 to 2,000 characters
+abbrev pub IsItem : List ℕ → Type 0
+IsItem item = (1 ≤ length item) × (length item ≤ 2000)
+
+abbrev pub IsSegment : List ℕ → Type 0
+IsSegment segment = IsText segment × (length segment ≤ 2000)
+
+-- a message from a terminal: 1 to 9,999 segments of at most 2,000 characters, with at most 9,999
+-- in all
+pub record IsTerminalMessage (message : RawMessage) : Type 0 where
+  pub some : 1 ≤ length message.segments
+  pub few : length message.segments ≤ 9999
+  pub each : AllByRecursion IsSegment message.segments
+  pub short : length (concat message.segments) ≤ 9999
+
+-- a place that can be written in 18 digits
+abbrev pub IsEndReason : EndReason → Type 0
+IsEndReason (finish.Frame fault) = fault.at < 10 ^ 18
+IsEndReason finish.End = Unit {0}
+IsEndReason finish.Fault = Unit {0}
+IsEndReason finish.Long = Unit {0}
+IsEndReason finish.Idle = Unit {0}
+
+-- a call whose parts are in their ranges
+abbrev pub IsWellFormed : Call → Type 0
+IsWellFormed Start = Unit {0}
+IsWellFormed (Receive area kind size no_data) = (1 ≤ size) × (size ≤ 2000)
+IsWellFormed (Count area) = Unit {0}
+IsWellFormed (Send area part item) = IsPart part × IfSome item IsItem
+IsWellFormed (SwitchInput on terminal area key) = length key ≤ 10
+IsWellFormed (SwitchOutput on area key) = length key ≤ 10
+IsWellFormed (Arrive stamp message) = IsTerminalMessage message
+IsWellFormed Held = Unit {0}
+IsWellFormed (Stop reason) = Unit {0}
+IsWellFormed (Finish reason) = IsEndReason reason
+
+-- a unit's call, and a terminal's
+abbrev pub IsUnitCall : Call → Type 0
+IsUnitCall Start = Unit {0}
+IsUnitCall (Receive area kind size no_data) = Unit {0}
+IsUnitCall (Count area) = Unit {0}
+IsUnitCall (Send area part item) = Unit {0}
+IsUnitCall (SwitchInput on terminal area key) = Unit {0}
+IsUnitCall (SwitchOutput on area key) = Unit {0}
+IsUnitCall (Stop reason) = Unit {0}
+IsUnitCall (Arrive stamp message) = ⊥
+IsUnitCall Held = ⊥
+IsUnitCall (Finish reason) = ⊥
+
+abbrev pub IsCallOf : Party → Call → Type 0
+IsCallOf (party.Unit name) call = IsUnitCall call
+IsCallOf (party.Terminal name) call = IsUnitCall call → ⊥
+
+-- the four names that START hands over, 48 characters of a text
+abbrev pub AreNames : List ℕ → Type 0
+AreNames names = IsText names × (length names ≡ 48)
+
+-- the reply is one that such a call may be answered
+abbrev pub IsReplyTo : Call → Reply → Type 0
+IsReplyTo Start (Started names) = IfSome names AreNames
+IsReplyTo (Receive area kind size no_data) (Given given text) = length text ≤ 2000
+IsReplyTo (Receive area kind size no_data) (NoData after) = Unit {0}
+IsReplyTo (Receive area kind size no_data) (Refused after) = Unit {0}
+IsReplyTo (Receive area kind size no_data) Waits = Unit {0}
+IsReplyTo (Count area) (AreaIn after) = Unit {0}
+IsReplyTo (Send area part item) (AreaOut after) = Unit {0}
+IsReplyTo (SwitchInput on terminal area key) (AreaIn after) = Unit {0}
+IsReplyTo (SwitchOutput on area key) (AreaOut after) = Unit {0}
+IsReplyTo (Arrive stamp message) (Arrived number) = (1 ≤ number) × (number < 10 ^ 18)
+IsReplyTo Held Done = Unit {0}
+IsReplyTo (Stop reason) Done = Unit {0}
+IsReplyTo (Finish reason) Done = Unit {0}
+IsReplyTo _ _ = ⊥
+
+-- the entry has a text in a journal
+pub record HasText (entry : Entry) : Type 0 where
+  pub caller : IsCallOf entry.party entry.call
+  pub call : IsWellFormed entry.call
+  pub reply : IsReplyTo entry.call entry.reply

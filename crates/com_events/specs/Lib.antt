@@ -1,0 +1,2 @@
+pub mod Calls
+pub use Rattle.com_cd.specs.InputArea

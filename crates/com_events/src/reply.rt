@@ -1,0 +1,25 @@
+//! What a call is answered.
+use com_cd::{InArea, OutArea};
+use com_text::Text;
+
+/// What a call is answered.
+#[derive(Debug, Drop)]
+pub enum Reply {
+    /// The unit runs. A scheduled unit is handed the four names of the queue, 48 characters.
+    Started { names: Option<[u8; 48]> },
+    /// A portion's text, and the area that tells of it.
+    Given { area: InArea, text: Text },
+    /// Nothing waits, and the area tells so.
+    NoData { area: InArea },
+    /// The area designates no queue, and tells so.
+    Refused { area: InArea },
+    /// The unit waits until there is something to receive.
+    Waits,
+    /// The area after COUNT, ENABLE INPUT and DISABLE INPUT.
+    AreaIn { area: InArea },
+    /// The area after SEND, ENABLE OUTPUT and DISABLE OUTPUT.
+    AreaOut { area: OutArea },
+    /// The number of the message among all arrivals, from 1.
+    Arrived { number: u64 },
+    Done,
+}

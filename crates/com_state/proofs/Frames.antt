@@ -1,0 +1,72 @@
+-- What the parts of a step leave as it was.
+use Rattle.std.proofs.Common.{◌≡◌, ℕ, ◌+◌, Bool, true, false, Some, None, Option, List, [], ◌∷◌, ◌++◌, refl, sym, ap, ◌∙◌, inl, inr, subst, cond}
+use Rattle.std.specs.Prelude.{◌⊎◌, option_map, option_and_then, slice_get}
+use Rattle.std.specs.List.{fold}
+use Rattle.std.proofs.lemmas.Bool.{cases_Bool}
+use Rattle.std.proofs.lemmas.Option.{none-some, same_Some}
+use Rattle.com_msg.specs.declared.sending.Part.{Part}
+use Rattle.com_msg.specs.declared.sending.Part.TheVariants as part
+use Rattle.com_msg.specs.declared.message.End.{End}
+use Rattle.com_net.specs.declared.net.Net.{Net}
+use Rattle.com_events.specs.declared.reply.Reply.{Reply}
+use Rattle.com_state.specs.State.{State, Begun, Finished, UnitMode, TerminalMode, UnitState, TerminalState}
+use Rattle.com_state.specs.Destinations.{with_begun, deliver, finish, finished, others_begun, serve_part, serve, add_text, begun_for, end_segment, is_on}
+use Rattle.com_state.specs.Switches.{transmit, switch_destination}
+use Rattle.com_state.specs.Steps.{next_if, with_unit_mode, with_terminal_mode, with_verb, with_reply, with_arrival}
+
+-- an option is none or something
+pub option_cases : {A : Type 0} (o : Option A) → (o ≡ None) ⊎ ((x : A) × (o ≡ Some x))
+option_cases None = inl refl
+option_cases (Some x) = inr (x, refl)
+
+pub next_if-Some : (test : Bool) (x y : Reply × State) → next_if test x ≡ Some y → x ≡ y
+next_if-Some true x y h = same_Some x y h
+next_if-Some false x y h = absurd (none-some y h)
+
+-- what a mode, a count of verbs or a count of arrivals is no part of
+pub record SameQueues (S next : State) : Type 0 where
+  pub net : next.net ≡ S.net
+  pub waiting : next.waiting ≡ S.waiting
+  pub held : next.held ≡ S.held
+  pub begun : next.begun ≡ S.begun
+  pub queued : next.queued ≡ S.queued
+
+pub same_queues : (S : State) → SameQueues S S
+same_queues S = record { net = refl; waiting = refl; held = refl; begun = refl; queued = refl }
+
+pub queues_unit_mode : (unit : ℕ) (mode : UnitMode) (S : State) → SameQueues S (with_unit_mode unit mode S)
+queues_unit_mode unit mode S = elim (option_cases (slice_get S.units unit)) [
+  | inl none ↦ rw (none, with_unit_mode) (same_queues S)
+  | inr some ↦ rw (some.1, with_unit_mode) record { net = refl; waiting = refl; held = refl; begun = refl; queued = refl }
+]
+
+pub queues_terminal_mode : (terminal : ℕ) (mode : TerminalMode) (S : State) → SameQueues S (with_terminal_mode terminal mode S)
+queues_terminal_mode terminal mode S = elim (option_cases (slice_get S.terminals terminal)) [
+  | inl none ↦ rw (none, with_terminal_mode) (same_queues S)
+  | inr some ↦ rw (some.1, with_terminal_mode) record { net = refl; waiting = refl; held = refl; begun = refl; queued = refl }
+]
+
+pub queues_verb : (unit : ℕ) (S : State) → SameQueues S (with_verb unit S)
+queues_verb unit S = elim (option_cases (slice_get S.units unit)) [
+  | inl none ↦ rw (none, with_verb) (same_queues S)
+  | inr some ↦ rw (some.1, with_verb) record { net = refl; waiting = refl; held = refl; begun = refl; queued = refl }
+]
+
+pub queues_arrival : (terminal : ℕ) (S : State) → SameQueues S (with_arrival terminal S)
+queues_arrival terminal S = elim (option_cases (slice_get S.terminals terminal)) [
+  | inl none ↦ rw (none, with_arrival) (same_queues S)
+  | inr some ↦ rw (some.1, with_arrival) record { net = refl; waiting = refl; held = refl; begun = refl; queued = refl }
+]
+
+-- what a verb leaves behind its own work
+pub after_verb : (unit : ℕ) (S : State) (reply : Reply) (next : State) (done : Reply × State) → with_reply unit done ≡ (reply, next) → SameQueues done.1 next
+after_verb unit S reply next done h = subst (λ (p : Reply × State). SameQueues done.1 p.1) h (queues_verb unit done.1)
+
+pub chained : (S mid next : State) → SameQueues S mid → SameQueues mid next → SameQueues S next
+chained S mid next first second = record {
+  net = second.net ∙ first.net;
+  waiting = second.waiting ∙ first.waiting;
+  held = second.held ∙ first.held;
+  begun = second.begun ∙ first.begun;
+  queued = second.queued ∙ first.queued;
+}

@@ -1,0 +1,6 @@
+mod Frames
+mod Kept
+mod Stepped
+mod Others
+mod Refusals
+mod Runs

@@ -1,0 +1,11 @@
+pub mod State
+pub mod Queues
+pub mod Destinations
+pub mod Switches
+pub mod Steps
+pub mod Histories
+pub mod Wholeness
+pub mod Transcripts
+pub mod Laws
+pub mod Rows
+pub mod FurtherRows

@@ -1,0 +1,273 @@
+-- What each call does: the steps of the system.
+use Rattle.std.specs.Prelude.{◌≡◌, ℕ, ◌+◌, Bool, true, false, not, ◌&&◌, ◌||◌, ◌==◌, nat_lt, List, [], ◌∷◌, ◌++◌, length, map, Option, Some, None, is_some, is_none, option_map, option_and_then, unwrap_or, slice_get, slice_set, if◌then◌else◌}
+use Rattle.std.specs.List.{filter, position, list_all, range_with_len}
+use Rattle.std.specs.Str.{bytes_eq}
+use Rattle.com_msg.specs.Stamp.{Moment}
+use Rattle.com_msg.specs.declared.message.RawMessage.{RawMessage}
+use Rattle.com_msg.specs.declared.message.Message.{Message}
+use Rattle.com_msg.specs.declared.rest.Kind.{Kind}
+use Rattle.com_msg.specs.declared.rest.Kind.TheVariants.{Message as message_kind, Segment as segment_kind}
+use Rattle.com_tree.specs.declared.tree.Node.{Node}
+use Rattle.com_net.specs.declared.net.Net.{Net}
+use Rattle.com_net.specs.declared.net.Feed.{Feed}
+use Rattle.com_events.specs.declared.call.Party.{Party}
+use Rattle.com_events.specs.declared.call.Party.TheVariants as party
+use Rattle.com_events.specs.declared.call.StopReason.{StopReason}
+use Rattle.com_events.specs.declared.call.StopReason.TheVariants as stop
+use Rattle.com_events.specs.declared.call.EndReason.{EndReason}
+use Rattle.com_events.specs.declared.call.EndReason.TheVariants as finish
+use Rattle.com_events.specs.declared.call.Call.{Call}
+use Rattle.com_events.specs.declared.call.Call.TheVariants.{Start, Receive, Count, Send, SwitchInput, SwitchOutput, Arrive, Held as IsHeld, Stop, Finish}
+use Rattle.com_events.specs.declared.reply.Reply.{Reply}
+use Rattle.com_events.specs.declared.reply.Reply.TheVariants.{Started, Waits, AreaIn, Arrived, Done}
+use Rattle.com_state.specs.State.{State, Waiting, UnitMode, dormant, running, waiting_for, stopped, TerminalMode, feeding, holding, ended, UnitState, TerminalState, unit_mode, terminal_mode}
+use Rattle.com_state.specs.Queues.{designated, chosen_leaf, leaf_fields, is_ready, receive, counted_area}
+use Rattle.com_state.specs.Destinations.{is_on, send}
+use Rattle.com_state.specs.Switches.{switch_input, switch_output}
+
+abbrev pub unit_number : Net → List ℕ → Option ℕ
+unit_number net name = position (λ unit. bytes_eq unit.name name) net.units
+
+abbrev pub terminal_number : Net → List ℕ → Option ℕ
+terminal_number net name = position (λ terminal. bytes_eq terminal.name name) net.terminals
+
+abbrev pub next_if : Bool → Reply × State → Option (Reply × State)
+next_if test next = if test then Some next else None
+
+-- the modes of parties
+abbrev pub is_dormant : Option UnitMode → Bool
+is_dormant (Some dormant) = true
+is_dormant _ = false
+
+abbrev pub is_running : Option UnitMode → Bool
+is_running (Some running) = true
+is_running _ = false
+
+abbrev pub is_feeding : Option TerminalMode → Bool
+is_feeding (Some feeding) = true
+is_feeding _ = false
+
+abbrev pub is_holding : Option TerminalMode → Bool
+is_holding (Some holding) = true
+is_holding _ = false
+
+abbrev pub with_unit_mode : ℕ → UnitMode → State → State
+with_unit_mode unit mode S = elim (slice_get S.units unit) [
+  | None ↦ S
+  | Some u ↦ record S { units = slice_set S.units unit (record u { mode = mode }) }
+]
+
+abbrev pub with_terminal_mode : ℕ → TerminalMode → State → State
+with_terminal_mode terminal mode S = elim (slice_get S.terminals terminal) [
+  | None ↦ S
+  | Some t ↦ record S { terminals = slice_set S.terminals terminal (record t { mode = mode }) }
+]
+
+-- one verb more of the unit was done, and it runs
+abbrev pub with_verb : ℕ → State → State
+with_verb unit S = elim (slice_get S.units unit) [
+  | None ↦ S
+  | Some u ↦ record S
+      { units = slice_set S.units unit (record { mode = running; verbs = u.verbs + 1 }) }
+]
+
+-- one message more of the terminal has arrived, and it feeds
+abbrev pub with_arrival : ℕ → State → State
+with_arrival terminal S = elim (slice_get S.terminals terminal) [
+  | None ↦ S
+  | Some t ↦ record S {
+    terminals = slice_set S.terminals terminal
+        (record { mode = feeding; arrivals = t.arrivals + 1 });
+  }
+]
+
+-- the unit has done less than 10,000 verbs
+abbrev pub may_do_verb : State → ℕ → Bool
+may_do_verb S unit = elim (slice_get S.units unit) [
+  | None ↦ false
+  | Some u ↦ nat_lt u.verbs 10000
+]
+
+-- less than 65,536 messages of the terminal have arrived
+abbrev pub may_arrive : State → ℕ → Bool
+may_arrive S terminal = elim (slice_get S.terminals terminal) [
+  | None ↦ false
+  | Some t ↦ nat_lt t.arrivals 65536
+]
+
+-- a verb was answered: its reply, and the unit has done one more
+abbrev pub with_reply : ℕ → Reply × State → Reply × State
+with_reply unit next = (next.0, with_verb unit next.1)
+
+-- where a message comes in
+abbrev pub feed_of : Net → ℕ → Option Feed
+feed_of net terminal = option_and_then (λ t. t.feed) (slice_get net.terminals terminal)
+
+-- PathOpen: the terminal has a route, and its input and the route's leaf are enabled
+abbrev pub is_path_open : State → ℕ → Bool
+is_path_open S terminal = elim (feed_of S.net terminal) [
+  | None ↦ false
+  | Some feed ↦ is_on S.input_on terminal && is_on S.leaf_on feed.leaf.number
+]
+
+-- the leaf whose first message starts the unit
+abbrev pub schedule_of : Net → ℕ → Option Node
+schedule_of net unit = option_and_then (λ u. u.schedule) (slice_get net.units unit)
+
+-- START of a unit that starts by itself, or of one whose schedule has a message
+abbrev pub start : State → ℕ → Option Node → Option (Reply × State)
+start S unit None = Some (Started None, with_unit_mode unit running S)
+start S unit (Some node) =
+    option_map (λ leaf. (Started (Some (leaf_fields S.net leaf)), with_unit_mode unit running S))
+    (chosen_leaf S.net S.waiting node)
+
+-- RECEIVE of a unit that runs: without anything to go on with, and without NO DATA, it waits
+abbrev pub receive_running : State → ℕ → List ℕ → Kind → ℕ → Bool → Reply × State
+receive_running S unit area kind size no_data =
+    if (no_data || is_none (designated S.net area)) || is_ready S unit area
+    then with_reply unit (receive S unit area kind size)
+    else (Waits, with_unit_mode unit (waiting_for area kind size) S)
+
+abbrev pub same_kind : Kind → Kind → Bool
+same_kind message_kind message_kind = true
+same_kind segment_kind segment_kind = true
+same_kind message_kind segment_kind = false
+same_kind segment_kind message_kind = false
+
+-- the unit waits with this RECEIVE, which has no NO DATA
+abbrev pub is_waiting_for : Option UnitMode → List ℕ → Kind → ℕ → Bool → Bool
+is_waiting_for (Some (waiting_for area kind size)) other_area other_kind other_size no_data =
+    ((bytes_eq area other_area && same_kind kind other_kind) && size == other_size) && not no_data
+is_waiting_for _ area kind size no_data = false
+
+abbrev pub step_receive : State → ℕ → List ℕ → Kind → ℕ → Bool → Option (Reply × State)
+step_receive S unit area kind size no_data =
+    if is_running (unit_mode S unit) then Some (receive_running S unit area kind size no_data)
+    else next_if (is_waiting_for (unit_mode S unit) area kind size no_data && is_ready S unit area)
+    (with_reply unit (receive S unit area kind size))
+
+-- a unit that can go on no further: stopped, waiting for what is not there, or never started
+abbrev pub is_unit_idle : State → ℕ → Option UnitMode → Bool
+is_unit_idle S unit (Some stopped) = true
+is_unit_idle S unit (Some (waiting_for area kind size)) = not (is_ready S unit area)
+is_unit_idle S unit (Some dormant) = elim (schedule_of S.net unit) [
+  | None ↦ false
+  | Some node ↦ is_none (chosen_leaf S.net S.waiting node)
+]
+is_unit_idle S unit (Some running) = false
+is_unit_idle S unit None = true
+
+-- a terminal that can go on no further: ended, or with a message that cannot come in
+abbrev pub is_terminal_idle : State → ℕ → Option TerminalMode → Bool
+is_terminal_idle S terminal (Some ended) = true
+is_terminal_idle S terminal (Some holding) = not (is_path_open S terminal)
+is_terminal_idle S terminal (Some feeding) = false
+is_terminal_idle S terminal None = true
+
+-- Idle: nothing can happen any more
+abbrev pub is_idle : State → Bool
+is_idle S =
+    list_all (λ unit. is_unit_idle S unit (unit_mode S unit)) (range_with_len 0 (length S.units))
+    && list_all (λ terminal. is_terminal_idle S terminal (terminal_mode S terminal))
+    (range_with_len 0 (length S.terminals))
+
+-- the unit stops, and what it holds and has begun to send is gone
+abbrev pub stop_unit : State → ℕ → State
+stop_unit S unit = with_unit_mode unit stopped (record S {
+  held = filter (λ h. not (h.unit == unit)) S.held;
+  begun = filter (λ b. not (b.unit == unit)) S.begun;
+})
+
+-- the unit stands where only the end of everything stops it
+abbrev pub waits_or_sleeps : Option UnitMode → Bool
+waits_or_sleeps (Some dormant) = true
+waits_or_sleeps (Some (waiting_for area kind size)) = true
+waits_or_sleeps _ = false
+
+abbrev pub may_stop : State → ℕ → StopReason → Bool
+may_stop S unit stop.Run = is_running (unit_mode S unit)
+may_stop S unit stop.Limit = is_running (unit_mode S unit)
+may_stop S unit stop.DataFault = is_running (unit_mode S unit)
+may_stop S unit stop.Idle = is_idle S && waits_or_sleeps (unit_mode S unit)
+
+abbrev pub may_finish : State → ℕ → EndReason → Bool
+may_finish S terminal finish.End = is_feeding (terminal_mode S terminal)
+may_finish S terminal (finish.Frame fault) = is_feeding (terminal_mode S terminal)
+may_finish S terminal finish.Fault = is_feeding (terminal_mode S terminal)
+may_finish S terminal finish.Long = is_feeding (terminal_mode S terminal)
+may_finish S terminal finish.Idle = is_idle S && is_holding (terminal_mode S terminal)
+
+-- a message comes in: it gets the next arrival number and goes behind those that wait
+abbrev pub arrived_message : State → ℕ → Moment → RawMessage → List ℕ → Message
+arrived_message S terminal stamp message name = record {
+  source = name;
+  arrival = S.arrivals + 1;
+  stamp = stamp;
+  segments = message.segments;
+  end = message.end;
+}
+
+abbrev pub arrive : State → ℕ → List ℕ → Moment → RawMessage → Feed → Reply × State
+arrive S terminal name stamp message feed =
+    let here : Waiting = record {
+      leaf = feed.leaf.number;
+      message = arrived_message S terminal stamp message name;
+    } in (
+      Arrived (S.arrivals + 1),
+      with_arrival terminal
+          (record S { waiting = S.waiting ++ here ∷ []; arrivals = S.arrivals + 1 }),
+    )
+
+abbrev pub is_feeding_or_holding : Option TerminalMode → Bool
+is_feeding_or_holding mode = is_feeding mode || is_holding mode
+
+-- a verb of a unit that runs and has not done all its verbs
+abbrev pub verb : State → ℕ → Reply × State → Option (Reply × State)
+verb S unit next =
+    next_if (is_running (unit_mode S unit) && may_do_verb S unit) (with_reply unit next)
+
+-- the calls of units
+abbrev pub unit_step : State → ℕ → Call → Option (Reply × State)
+unit_step S unit Start =
+    if is_dormant (unit_mode S unit) then start S unit (schedule_of S.net unit) else None
+unit_step S unit (Receive area kind size no_data) =
+    if may_do_verb S unit then step_receive S unit area kind size no_data else None
+unit_step S unit (Count area) = verb S unit (AreaIn (counted_area S area), S)
+unit_step S unit (Send area part item) = verb S unit (send S unit area part item)
+unit_step S unit (SwitchInput on terminal area key) =
+    verb S unit (switch_input S on terminal area key)
+unit_step S unit (SwitchOutput on area key) = verb S unit (switch_output S on area key)
+unit_step S unit (Stop reason) = next_if (may_stop S unit reason) (Done, stop_unit S unit)
+unit_step S unit (Arrive stamp message) = None
+unit_step S unit IsHeld = None
+unit_step S unit (Finish reason) = None
+
+-- the calls of terminals
+abbrev pub terminal_step : State → ℕ → List ℕ → Call → Option (Reply × State)
+terminal_step S terminal name (Arrive stamp message) = elim (feed_of S.net terminal) [
+  | None ↦ None
+  | Some feed ↦ next_if
+      ((is_path_open S terminal && is_feeding_or_holding (terminal_mode S terminal))
+      && may_arrive S terminal) (arrive S terminal name stamp message feed)
+]
+terminal_step S terminal name IsHeld =
+    next_if (((is_some (feed_of S.net terminal) && is_feeding (terminal_mode S terminal))
+    && not (is_path_open S terminal)) && may_arrive S terminal)
+    (Done, with_terminal_mode terminal holding S)
+terminal_step S terminal name (Finish reason) =
+    next_if (may_finish S terminal reason) (Done, with_terminal_mode terminal ended S)
+terminal_step S terminal name Start = None
+terminal_step S terminal name (Receive area kind size no_data) = None
+terminal_step S terminal name (Count area) = None
+terminal_step S terminal name (Send area part item) = None
+terminal_step S terminal name (SwitchInput on is_terminal area key) = None
+terminal_step S terminal name (SwitchOutput on area key) = None
+terminal_step S terminal name (Stop reason) = None
+
+-- Step: what a call is answered and the state after it; undefined where there is no case, and for a
+-- party that the network has not
+abbrev pub step : State → Party → Call → Option (Reply × State)
+step S (party.Unit name) call =
+    option_and_then (λ unit. unit_step S unit call) (unit_number S.net name)
+step S (party.Terminal name) call =
+    option_and_then (λ terminal. terminal_step S terminal name call) (terminal_number S.net name)

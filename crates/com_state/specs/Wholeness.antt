@@ -1,0 +1,170 @@
+-- What holds of every legal history: messages are handed out whole, to one unit each, and in order.
+use Rattle.std.specs.Prelude.{◌≡◌, ℕ, ◌+◌, ◌⊎◌, Bool, true, false, not, ◌&&◌, ◌||◌, ◌==◌, nat_le, if◌then◌else◌, List, [], ◌∷◌, ◌++◌, length, map, Option, Some, None, option_map, option_and_then, slice_get, IsTrue, codes}
+use Rattle.std.specs.List.{concat, filter, filter_map, list_all, list_any, cons_option, last_or}
+use Rattle.std.specs.Str.{bytes_eq}
+use Rattle.com_msg.specs.declared.message.RawMessage.{RawMessage}
+use Rattle.com_cd.specs.InputArea.{in_field}
+use Rattle.com_cd.specs.declared.input_area.InField.TheVariants as field
+use Rattle.com_net.specs.declared.net.Net.{Net}
+use Rattle.com_events.specs.declared.call.Party.{Party}
+use Rattle.com_events.specs.declared.call.Party.TheVariants as party
+use Rattle.com_events.specs.declared.call.Call.{Call}
+use Rattle.com_events.specs.declared.call.Call.TheVariants.{Receive, Arrive, Stop, Finish}
+use Rattle.com_events.specs.declared.reply.Reply.{Reply}
+use Rattle.com_events.specs.declared.reply.Reply.TheVariants.{Given}
+use Rattle.com_events.specs.declared.entry.Entry.{Entry}
+use Rattle.com_state.specs.State.{State, UnitMode, stopped, opening, unit_mode}
+use Rattle.com_state.specs.Queues.{Next, designated, next_rest}
+use Rattle.com_state.specs.Steps.{step, unit_number, terminal_number, feed_of}
+use Rattle.com_state.specs.Histories.{Legal, LeadsTo}
+
+-- the other list begins with this one
+abbrev pub IsPrefixOf : {X : Type 0} → List X → List X → Type 0
+IsPrefixOf {X} front whole = (rest : List X) × (whole ≡ front ++ rest)
+
+-- one portion that a unit was given: of which message, by its arrival number and its leaf, and what
+pub record HandedOut : Type 0 where
+  pub unit : ℕ
+  pub leaf : ℕ
+  pub arrival : ℕ
+  pub text : List ℕ
+  pub end_key : List ℕ
+
+abbrev pub handed_of : ℕ → List ℕ → List ℕ → Next → HandedOut
+handed_of unit given text next = record {
+  unit = unit;
+  leaf = next.leaf;
+  arrival = next.rest.arrival;
+  text = text;
+  end_key = in_field field.EndKey given;
+}
+
+-- From: what an entry hands out, by what RECEIVE goes on with in the state before it
+abbrev pub handed_by : State → Party → Call → Reply → Option HandedOut
+handed_by S (party.Unit name) (Receive area kind size no_data) (Given given text) =
+    option_and_then (λ unit. option_map (handed_of unit given text)
+    (option_and_then (next_rest S unit) (designated S.net area))) (unit_number S.net name)
+handed_by S _ _ _ = None
+
+-- all portions of a history, in order
+abbrev pub all_handed : State → List Entry → List HandedOut
+all_handed S [] = []
+all_handed S (entry ∷ entries) = elim (step S entry.party entry.call) [
+  | None ↦ []
+  | Some next ↦ cons_option (handed_by S entry.party entry.call entry.reply)
+      (all_handed next.1 entries)
+]
+
+abbrev pub portions_of : Net → List Entry → ℕ → List HandedOut
+portions_of net history arrival =
+    filter (λ portion. portion.arrival == arrival) (all_handed (opening net) history)
+
+-- the messages that have arrived, each beside its leaf, in order
+abbrev pub arrival_by : Net → Party → Call → Option (ℕ × RawMessage)
+arrival_by net (party.Terminal name) (Arrive stamp message) =
+    option_and_then
+    (λ terminal. option_map (λ feed. (feed.leaf.number, message)) (feed_of net terminal))
+    (terminal_number net name)
+arrival_by net _ _ = None
+
+abbrev pub arrivals_of : Net → List Entry → List (ℕ × RawMessage)
+arrivals_of net history = filter_map (λ entry. arrival_by net entry.party entry.call) history
+
+-- an end key that ends a message
+abbrev pub is_last_key : List ℕ → Bool
+is_last_key key = bytes_eq key (codes "2") || bytes_eq key (codes "3")
+
+-- no portion follows one that ends the message
+abbrev pub are_ended_once : List HandedOut → Bool
+are_ended_once [] = true
+are_ended_once (portion ∷ []) = true
+are_ended_once (portion ∷ next ∷ portions) =
+    not (is_last_key portion.end_key) && are_ended_once (next ∷ portions)
+
+abbrev pub texts_of : List HandedOut → List ℕ
+texts_of portions = concat (map (λ portion. portion.text) portions)
+
+-- all of the message was handed out
+abbrev pub IsGivenWhole : List HandedOut → RawMessage → Type 0
+IsGivenWhole portions message =
+    (texts_of portions ≡ concat message.segments)
+    × IsTrue (list_any (λ portion. is_last_key portion.end_key) portions)
+
+-- the unit holds what is left of the message, or has stopped
+abbrev pub IsLeftWith : State → ℕ → ℕ → Type 0
+IsLeftWith S unit arrival =
+    IsTrue (list_any (λ h. h.unit == unit && h.rest.arrival == arrival) S.held)
+    ⊎ (unit_mode S unit ≡ Some stopped)
+
+-- The portions of one message: all of one unit, a prefix of the message, and the whole of it unless
+-- the unit still holds the rest or has stopped.
+pub record IsHandedTo (S : State) (arrival : ℕ) (message : RawMessage) (portions : List HandedOut)
+    (unit : ℕ) : Type 0 where
+  pub one_unit : IsTrue (list_all (λ portion. portion.unit == unit) portions)
+  pub front : IsPrefixOf (texts_of portions) (concat message.segments)
+  pub once : IsTrue (are_ended_once portions)
+  pub whole : IsGivenWhole portions message ⊎ IsLeftWith S unit arrival
+
+-- a message that no portion was handed out of, or one unit has
+abbrev pub IsWholeMessage : State → ℕ → RawMessage → List HandedOut → Type 0
+IsWholeMessage S arrival message [] = Unit {0}
+IsWholeMessage S arrival message (portion ∷ portions) =
+    IsHandedTo S arrival message (portion ∷ portions) portion.unit
+
+abbrev pub is_arrived : ℕ → ℕ → Bool
+is_arrived arrival count = nat_le 1 arrival && nat_le arrival count
+
+-- Whole: no portion stands before its message has arrived, and each message is handed out whole
+pub record Whole (net : Net) (history : List Entry) : Type 0 where
+  pub arrived : (before after : List Entry) → history ≡ before ++ after →
+      IsTrue (list_all (λ portion. is_arrived portion.arrival (length (arrivals_of net before)))
+      (all_handed (opening net) before))
+  pub messages : (last : State) → LeadsTo (opening net) history last → (n : ℕ) (leaf : ℕ)
+      (message : RawMessage) →
+      slice_get (arrivals_of net history) n ≡ Some (leaf, message) →
+      IsWholeMessage last (n + 1) message (portions_of net history (n + 1))
+
+-- the numbers in a list, each once, in the order in which they first come
+abbrev pub each_once : List ℕ → List ℕ
+each_once [] = []
+each_once (n ∷ numbers) = n ∷ filter (λ other. not (other == n)) (each_once numbers)
+
+-- the arrival numbers of the messages of a leaf, in order; the next is the given number
+abbrev pub numbers_on : ℕ → ℕ → List (ℕ × RawMessage) → List ℕ
+numbers_on leaf next [] = []
+numbers_on leaf next (arrival ∷ arrivals) =
+    if arrival.0 == leaf then next ∷ numbers_on leaf (next + 1) arrivals
+    else numbers_on leaf (next + 1) arrivals
+
+-- InOrder: the messages of a leaf that have a portion are the first of its arrivals, and their
+-- first portions come in that order
+abbrev pub InOrder : Net → List Entry → Type 0
+InOrder net history = (leaf : ℕ) → IsPrefixOf
+    (each_once (map (λ portion. portion.arrival)
+    (filter (λ portion. portion.leaf == leaf) (all_handed (opening net) history))))
+    (numbers_on leaf 1 (arrivals_of net history))
+
+abbrev pub is_stop : List ℕ → Party → Call → Bool
+is_stop name (party.Unit other) (Stop reason) = bytes_eq name other
+is_stop name _ _ = false
+
+abbrev pub is_end : List ℕ → Party → Call → Bool
+is_end name (party.Terminal other) (Finish reason) = bytes_eq name other
+is_end name _ _ = false
+
+abbrev pub is_stop_of : List ℕ → Entry → Bool
+is_stop_of name entry = is_stop name entry.party entry.call
+
+abbrev pub is_end_of : List ℕ → Entry → Bool
+is_end_of name entry = is_end name entry.party entry.call
+
+-- Complete: every unit has a STOP and every terminal an END
+pub record Complete (net : Net) (history : List Entry) : Type 0 where
+  pub units : IsTrue (list_all (λ unit. list_any (is_stop_of unit.name) history) net.units)
+  pub terminals : IsTrue
+      (list_all (λ terminal. list_any (is_end_of terminal.name) history) net.terminals)
+
+-- the law of every legal history
+abbrev pub EveryHistoryIsWhole : Type 0
+EveryHistoryIsWhole =
+    (net : Net) (history : List Entry) → Legal net history → Whole net history × InOrder net history

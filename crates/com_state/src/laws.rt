@@ -1,0 +1,48 @@
+//! Laws of the definitions. A function here does nothing; its contract is the law.
+ghost use Rattle.std.specs.Prelude.{◌≡◌, ◌≢◌, ℕ, Bool, List, [], Some, codes};
+ghost use Rattle.com_msg.specs.declared.rest.Kind.{Kind as KindOf};
+ghost use Rattle.com_events.specs.declared.call.Party.{Party as PartyOf};
+ghost use Rattle.com_events.specs.declared.call.Party.TheVariants as party;
+ghost use Rattle.com_events.specs.declared.call.Call.{Call as CallOf};
+ghost use Rattle.com_events.specs.declared.call.Call.TheVariants as made;
+ghost use Rattle.com_events.specs.declared.call.StopReason.{StopReason as ReasonOf};
+ghost use Rattle.com_events.specs.declared.reply.Reply.{Reply as ReplyOf};
+ghost use Rattle.com_events.specs.declared.reply.Reply.TheVariants as reply;
+ghost use Rattle.com_cd.specs.InputArea.{set_in};
+ghost use Rattle.com_cd.specs.declared.input_area.InField.TheVariants as field;
+ghost use Rattle.com_state.specs.State.{State as SystemState};
+ghost use Rattle.com_state.specs.Steps.{step, unit_number};
+ghost use Rattle.com_state.specs.Laws.{Keeps, rests_of, begun_of};
+
+/// Every step leaves the network; only ARRIVE makes more messages wait; and what is queued for a
+/// terminal is still queued behind it, but for ENABLE OUTPUT.
+pub fn step_keeps()
+    ensures { (S next : SystemState) (party : PartyOf) (call : CallOf) (reply : ReplyOf) →
+        step S party call ≡ Some (reply, next) → Keeps S call next }
+{}
+
+/// A RECEIVE of one unit leaves what the others hold.
+pub fn others_keep_their_rests()
+    ensures { (S next : SystemState) (name : List ℕ) (unit other : ℕ) (area : List ℕ)
+        (kind : KindOf) (size : ℕ) (no_data : Bool) (reply : ReplyOf) →
+        unit_number S.net name ≡ Some unit → other ≢ unit →
+        step S (party.Unit name) (made.Receive area kind size no_data) ≡ Some (reply, next) →
+        rests_of next other ≡ rests_of S other }
+{}
+
+/// A unit that stops holds nothing any more, and what it had begun to send is gone.
+pub fn nothing_is_left_of_a_stopped_unit()
+    ensures { (S next : SystemState) (name : List ℕ) (unit : ℕ) (reason : ReasonOf)
+        (reply : ReplyOf) → unit_number S.net name ≡ Some unit →
+        step S (party.Unit name) (made.Stop reason) ≡ Some (reply, next) →
+        (rests_of next unit ≡ []) × (begun_of next unit ≡ []) }
+{}
+
+/// A RECEIVE that is refused changes the status key of its area, and nothing else there.
+pub fn a_refusal_changes_the_status_alone()
+    ensures { (S next : SystemState) (name area after : List ℕ) (kind : KindOf) (size : ℕ)
+        (no_data : Bool) →
+        step S (party.Unit name) (made.Receive area kind size no_data)
+        ≡ Some (reply.Refused after, next) →
+        after ≡ set_in field.Status area (codes "20") }
+{}

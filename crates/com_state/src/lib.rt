@@ -1,0 +1,18 @@
+//! The one-thread message control system: its definitions, what holds of every step, and worked
+//! histories.
+#![tactic(auto)]
+
+mod laws;
+mod rows;
+
+pub use laws::{
+    a_refusal_changes_the_status_alone, nothing_is_left_of_a_stopped_unit, others_keep_their_rests,
+    step_keeps,
+};
+pub use rows::{
+    both_wait, empty_segments, first_calls, held_arrival, input_switched, limits, mixed_portions,
+    networks, never_started, output_switched, outputs_switched, portions_of_five, purged_at_stop,
+    resumed, scheduled, send_keys, sent_in_segments, several_rests, shown_is_legal, shut_out,
+    tree_order, trees, trees_switched, two_units, uneven_order, unknown_designation,
+    unknown_destination,
+};
