@@ -1,17 +1,9 @@
 -- What the parts of a step leave as it was.
-use Rattle.std.proofs.Common.{◌≡◌, ℕ, ◌+◌, Bool, true, false, Some, None, Option, List, [], ◌∷◌, ◌++◌, refl, sym, ap, ◌∙◌, inl, inr, subst, cond}
-use Rattle.std.specs.Prelude.{◌⊎◌, option_map, option_and_then, slice_get}
-use Rattle.std.specs.List.{fold}
-use Rattle.std.proofs.lemmas.Bool.{cases_Bool}
+use Rattle.std.proofs.Common.{◌≡◌, ℕ, Bool, true, false, Some, None, Option, refl, ◌∙◌, inl, inr, subst}
+use Rattle.std.specs.Prelude.{◌⊎◌, slice_get}
 use Rattle.std.proofs.lemmas.Option.{none-some, same_Some}
-use Rattle.com_msg.specs.declared.sending.Part.{Part}
-use Rattle.com_msg.specs.declared.sending.Part.TheVariants as part
-use Rattle.com_msg.specs.declared.message.End.{End}
-use Rattle.com_net.specs.declared.net.Net.{Net}
 use Rattle.com_events.specs.declared.reply.Reply.{Reply}
-use Rattle.com_state.specs.State.{State, Begun, Finished, UnitMode, TerminalMode, UnitState, TerminalState}
-use Rattle.com_state.specs.Destinations.{with_begun, deliver, finish, finished, others_begun, serve_part, serve, add_text, begun_for, end_segment, is_on}
-use Rattle.com_state.specs.Switches.{transmit, switch_destination}
+use Rattle.com_state.specs.State.{State, UnitMode, TerminalMode}
 use Rattle.com_state.specs.Steps.{next_if, with_unit_mode, with_terminal_mode, with_verb, with_reply, with_arrival}
 
 -- an option is none or something

@@ -1,7 +1,7 @@
 -- What each call keeps.
-use Rattle.std.proofs.Common.{◌≡◌, ℕ, ◌≤◌, Bool, true, false, Some, None, Option, List, [], ◌∷◌, ◌++◌, length, refl, sym, ap, ◌∙◌, inl, inr, subst, arith, append_assoc}
-use Rattle.std.specs.Prelude.{◌⊎◌, option_map, option_and_then, slice_get, ◌==◌}
-use Rattle.std.specs.List.{filter, fold, find, list_all}
+use Rattle.std.proofs.Common.{◌≡◌, ℕ, ◌≤◌, Bool, true, false, Some, None, Option, List, [], ◌∷◌, ◌++◌, length, refl, sym, ap, ◌∙◌, inl, inr, arith, append_assoc}
+use Rattle.std.specs.Prelude.{◌⊎◌, option_map, slice_get, ◌==◌}
+use Rattle.std.specs.List.{filter, fold, list_all}
 use Rattle.com_cd.specs.InputArea.{in_field}
 use Rattle.com_cd.specs.declared.input_area.InField.TheVariants as field
 use Rattle.com_cd.specs.OutputArea.{destination_count}
@@ -9,7 +9,6 @@ use Rattle.com_tree.specs.Places.{top_of}
 use Rattle.std.proofs.lemmas.Bool.{cases_Bool}
 use Rattle.std.proofs.lemmas.List.{append-nil}
 use Rattle.std.proofs.lemmas.List.Elements.{filter-append}
-use Rattle.std.proofs.lemmas.Option.{none-some, same_Some}
 use Rattle.com_msg.specs.declared.sending.Part.{Part}
 use Rattle.com_msg.specs.declared.sending.Part.TheVariants as part
 use Rattle.com_msg.specs.declared.message.End.{End}
@@ -17,15 +16,12 @@ use Rattle.com_msg.specs.declared.message.End.TheVariants.{Emi as with_emi, Egi 
 use Rattle.com_msg.specs.declared.rest.Kind.{Kind}
 use Rattle.com_tree.specs.declared.tree.Node.{Node}
 use Rattle.com_events.specs.declared.call.Call.{Call}
-use Rattle.com_events.specs.declared.call.Call.TheVariants as made
-use Rattle.com_events.specs.declared.reply.Reply.{Reply}
 use Rattle.com_state.specs.State.{State, Waiting, Begun, Finished}
-use Rattle.com_state.specs.Queues.{Next, designated, first_on, chosen_leaf, without_first, held_under, next_of_held, next_waiting, next_rest, receive_next, receive, give}
-use Rattle.com_state.specs.Destinations.{with_begun, deliver, finish, finished, others_begun, terminal_with, end_segment, add_text, begun_for, serve_part, serve, known_of, destinations, sent_text, send_to, send_text, send, is_on, is_nothing}
-use Rattle.com_state.specs.Switches.{switch_leaves, switch_terminal, switch_input, is_key, is_key_of, transmit, switch_destination, switch_outputs, switch_output}
-use Rattle.com_state.specs.Steps.{step, unit_step, terminal_step, unit_number, terminal_number, next_if, with_reply, with_verb, verb, with_unit_mode, with_terminal_mode, with_arrival, start, schedule_of, receive_running, step_receive, is_waiting_for, is_running, is_dormant, may_do_verb, may_stop, may_finish, may_arrive, stop_unit, arrive, feed_of, is_path_open, is_feeding_or_holding}
+use Rattle.com_state.specs.Queues.{Next, designated, first_on, chosen_leaf, without_first, held_under, next_waiting, next_rest, receive_next, receive}
+use Rattle.com_state.specs.Destinations.{deliver, finish, finished, others_begun, terminal_with, end_segment, add_text, begun_for, serve_part, serve, known_of, destinations, sent_text, send_text, send, is_on, is_nothing}
+use Rattle.com_state.specs.Switches.{switch_leaves, switch_terminal, switch_input, is_key, is_key_of, switch_destination, switch_outputs, switch_output}
 use Rattle.com_state.specs.Wholeness.{IsPrefixOf}
-use Rattle.com_state.specs.Laws.{Keeps, queue_for, is_arrival, enables_output}
+use Rattle.com_state.specs.Laws.{Keeps, queue_for, enables_output}
 use Rattle.com_state.proofs.Frames.{option_cases, SameQueues, same_queues}
 
 -- a list is a prefix of itself

@@ -3,4 +3,5 @@ mod Kept
 mod Stepped
 mod Others
 mod Refusals
+pub mod Portions
 mod Runs

@@ -6,18 +6,13 @@ use Rattle.std.proofs.lemmas.Bool.{cases_Bool, and_parts, eqb-true, ne_eqb}
 use Rattle.std.proofs.lemmas.Option.{none-some, same_Some}
 use Rattle.com_msg.specs.declared.message.Message.{Message}
 use Rattle.com_msg.specs.declared.rest.Kind.{Kind}
-use Rattle.com_cd.specs.InputArea.{set_in}
-use Rattle.com_cd.specs.declared.input_area.InField.TheVariants as field
-use Rattle.com_events.specs.declared.call.Party.{Party}
 use Rattle.com_events.specs.declared.call.Party.TheVariants as party
 use Rattle.com_events.specs.declared.call.StopReason.{StopReason}
 use Rattle.com_events.specs.declared.call.Call.TheVariants as made
 use Rattle.com_events.specs.declared.reply.Reply.{Reply}
-use Rattle.com_events.specs.declared.reply.Reply.TheVariants.{Given, NoData, Refused, Waits, Done}
-use Rattle.com_cd.specs.declared.status.Status.TheVariants.{S20}
 use Rattle.com_state.specs.State.{State, Held, unit_mode, waiting_for, stopped}
-use Rattle.com_state.specs.Queues.{Next, designated, is_held_on, without_held, with_held, with_status, next_rest, receive_next, receive, is_ready}
-use Rattle.com_state.specs.Steps.{step, unit_step, unit_number, next_if, with_reply, with_verb, with_unit_mode, receive_running, step_receive, is_waiting_for, is_running, may_do_verb, may_stop, stop_unit}
+use Rattle.com_state.specs.Queues.{Next, designated, is_held_on, without_held, with_held, next_rest, receive_next, receive, is_ready}
+use Rattle.com_state.specs.Steps.{step, unit_step, unit_number, with_reply, with_verb, with_unit_mode, receive_running, step_receive, is_waiting_for, is_running, may_do_verb, may_stop}
 use Rattle.com_state.specs.Laws.{rests_of, begun_of}
 use Rattle.com_state.proofs.Frames.{option_cases, next_if-Some, queues_unit_mode, queues_verb}
 

@@ -1,5 +1,5 @@
 -- What a refused RECEIVE writes.
-use Rattle.std.proofs.Common.{◌≡◌, ℕ, Bool, true, false, ◌&&◌, Some, None, Option, List, refl, sym, ap, ◌∙◌, inl, inr, subst}
+use Rattle.std.proofs.Common.{◌≡◌, ℕ, Bool, ◌&&◌, Some, None, Option, List, refl, inl, inr, subst}
 use Rattle.std.specs.Prelude.{◌||◌, is_none, codes}
 use Rattle.std.proofs.lemmas.Bool.{cases_Bool}
 use Rattle.std.proofs.lemmas.Option.{none-some, same_Some}
@@ -9,7 +9,7 @@ use Rattle.com_cd.specs.declared.input_area.InField.TheVariants as field
 use Rattle.com_events.specs.declared.call.Party.TheVariants as party
 use Rattle.com_events.specs.declared.call.Call.TheVariants as made
 use Rattle.com_events.specs.declared.reply.Reply.{Reply}
-use Rattle.com_events.specs.declared.reply.Reply.TheVariants.{Started, Given, NoData, Refused, Waits, AreaIn, AreaOut, Arrived, Done}
+use Rattle.com_events.specs.declared.reply.Reply.TheVariants.{Refused}
 use Rattle.com_state.specs.State.{State, unit_mode}
 use Rattle.com_state.specs.Queues.{Next, designated, next_rest, receive_next, receive, is_ready}
 use Rattle.com_state.specs.Steps.{step, unit_step, unit_number, with_reply, receive_running, step_receive, is_waiting_for, is_running, may_do_verb}

@@ -1,6 +1,6 @@
 -- What each step keeps.
-use Rattle.std.proofs.Common.{◌≡◌, ℕ, ◌≤◌, Bool, true, false, ◌&&◌, Some, None, Option, List, [], ◌∷◌, ◌++◌, length, refl, sym, ap, ◌∙◌, inl, inr, subst, arith, cond}
-use Rattle.std.specs.Prelude.{◌||◌, option_map, option_and_then, slice_get, is_none}
+use Rattle.std.proofs.Common.{◌≡◌, ℕ, Bool, ◌&&◌, Some, None, Option, List, refl, inl, inr, subst}
+use Rattle.std.specs.Prelude.{◌||◌, is_none}
 use Rattle.std.proofs.lemmas.Bool.{cases_Bool}
 use Rattle.std.proofs.lemmas.Option.{none-some, same_Some}
 use Rattle.com_msg.specs.Stamp.{Moment}
@@ -14,13 +14,13 @@ use Rattle.com_events.specs.declared.call.Call.{Call}
 use Rattle.com_events.specs.declared.call.Call.TheVariants as made
 use Rattle.com_events.specs.declared.reply.Reply.{Reply}
 use Rattle.com_events.specs.declared.reply.Reply.TheVariants.{Started, AreaIn}
-use Rattle.com_state.specs.State.{State, unit_mode, running, waiting_for, terminal_mode, holding, ended}
+use Rattle.com_state.specs.State.{State, unit_mode, running, waiting_for, holding, ended}
 use Rattle.com_state.specs.Queues.{designated, chosen_leaf, leaf_fields, is_ready, receive, counted_area}
 use Rattle.com_state.specs.Destinations.{send}
 use Rattle.com_state.specs.Switches.{switch_input, switch_output}
-use Rattle.com_state.specs.Steps.{step, unit_step, terminal_step, unit_number, terminal_number, next_if, with_reply, with_verb, verb, with_unit_mode, with_terminal_mode, with_arrival, start, schedule_of, receive_running, step_receive, is_waiting_for, is_running, is_dormant, may_do_verb, may_stop, may_finish, may_arrive, stop_unit, arrive, feed_of, is_path_open, is_feeding_or_holding}
-use Rattle.com_state.specs.Laws.{Keeps, enables_output}
-use Rattle.com_state.proofs.Frames.{option_cases, next_if-Some, SameQueues, same_queues, queues_unit_mode, queues_terminal_mode, queues_verb, queues_arrival}
+use Rattle.com_state.specs.Steps.{step, unit_step, terminal_step, unit_number, terminal_number, next_if, with_reply, with_verb, verb, with_unit_mode, start, schedule_of, receive_running, step_receive, is_waiting_for, is_running, is_dormant, may_do_verb, may_stop, stop_unit, arrive, feed_of}
+use Rattle.com_state.specs.Laws.{Keeps}
+use Rattle.com_state.proofs.Frames.{option_cases, next_if-Some, same_queues, queues_unit_mode, queues_terminal_mode, queues_verb, queues_arrival}
 use Rattle.com_state.proofs.Kept.{kept_same, kept_chain, kept_receive, kept_send, kept_switch_input, kept_switch_output, unchanged_queues}
 
 -- where a step is this one, its state keeps what this one keeps

@@ -1,5 +1,5 @@
 -- SEND: text that a unit sends, and messages on their way to terminals.
-use Rattle.std.specs.Prelude.{ℕ, ◌+◌, Bool, true, false, not, ◌&&◌, ◌||◌, ◌==◌, nat_le, List, [], ◌∷◌, ◌++◌, length, map, take, Option, Some, None, unwrap_or, slice_get, if◌then◌else◌, codes}
+use Rattle.std.specs.Prelude.{ℕ, ◌+◌, Bool, true, false, not, ◌&&◌, ◌==◌, nat_le, List, [], ◌∷◌, ◌++◌, length, map, take, Option, Some, None, unwrap_or, slice_get, if◌then◌else◌, codes}
 use Rattle.std.specs.List.{filter, find, position, range_with_len, list_any, fold}
 use Rattle.std.specs.Str.{bytes_eq, all_ascii_digits}
 use Rattle.com_text.specs.Name.{field_of}

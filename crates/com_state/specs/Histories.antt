@@ -1,5 +1,5 @@
 -- Histories of the system: which are legal, and what holds of them.
-use Rattle.std.specs.Prelude.{◌≡◌, ℕ, ◌+◌, Bool, true, false, List, [], ◌∷◌, ◌++◌, length, Option, Some, None, option_map, option_and_then}
+use Rattle.std.specs.Prelude.{◌≡◌, List, [], ◌∷◌, map, Option, Some, option_map, option_and_then}
 use Rattle.com_net.specs.declared.net.Net.{Net}
 use Rattle.com_events.specs.declared.call.Party.{Party}
 use Rattle.com_events.specs.declared.call.Call.{Call}
@@ -35,3 +35,10 @@ run_from S (made ∷ calls) =
 -- Run: the legal history with just these calls
 abbrev pub run : Net → List (Party × Call) → Option (List Entry × State)
 run net calls = run_from (opening net) calls
+
+abbrev pub call_made : Entry → Party × Call
+call_made entry = (entry.party, entry.call)
+
+-- After: the state that a history leaves, where its calls can be done
+abbrev pub state_after : Net → List Entry → Option State
+state_after net history = option_map (λ r. r.1) (run net (map call_made history))

@@ -1,6 +1,6 @@
 -- RECEIVE and ACCEPT MESSAGE COUNT: what waits, and what a unit holds.
-use Rattle.std.specs.Prelude.{ℕ, ◌+◌, ◌-◌, Bool, not, ◌&&◌, ◌==◌, nat_le, nat_lt, min, List, [], ◌∷◌, ◌++◌, length, take, drop, Option, Some, None, option_map, option_and_then, unwrap_or, is_some, slice_get, if◌then◌else◌, codes, count_by}
-use Rattle.std.specs.List.{filter, find, filter_map, position, range_with_len, list_any}
+use Rattle.std.specs.Prelude.{ℕ, ◌-◌, Bool, not, ◌&&◌, ◌==◌, nat_le, nat_lt, min, List, [], ◌∷◌, ◌++◌, length, take, drop, Option, Some, None, option_map, option_and_then, unwrap_or, is_some, slice_get, if◌then◌else◌, codes, count_by}
+use Rattle.std.specs.List.{filter, find, position, range_with_len, list_any}
 use Rattle.std.specs.Str.{bytes_eq}
 use Rattle.com_text.specs.Name.{field_of}
 use Rattle.com_text.specs.Digits.{in_digits}
@@ -19,7 +19,7 @@ use Rattle.com_tree.specs.Places.{paths, leaf_paths, first_leaf, past_leaf}
 use Rattle.com_tree.specs.NextLeaf.{next_leaf}
 use Rattle.com_net.specs.declared.net.Net.{Net}
 use Rattle.com_events.specs.declared.reply.Reply.{Reply}
-use Rattle.com_events.specs.declared.reply.Reply.TheVariants.{Given, NoData, Refused, AreaIn}
+use Rattle.com_events.specs.declared.reply.Reply.TheVariants.{Given, NoData, Refused}
 use Rattle.com_state.specs.State.{State, Waiting, Held}
 
 -- Designated: the node whose path the four name fields of the area hold

@@ -1,5 +1,5 @@
 -- The one-thread system: its states.
-use Rattle.std.specs.Prelude.{ℕ, Bool, List, [], ◌∷◌, length, map, replicate, Option, Some, None, option_map, slice_get}
+use Rattle.std.specs.Prelude.{ℕ, Bool, List, [], length, map, replicate, Option, option_map, slice_get}
 use Rattle.com_msg.specs.declared.message.Message.{Message}
 use Rattle.com_msg.specs.declared.rest.Kind.{Kind}
 use Rattle.com_msg.specs.declared.sending.OutSegment.{OutSegment}

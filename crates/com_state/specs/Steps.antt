@@ -1,5 +1,5 @@
 -- What each call does: the steps of the system.
-use Rattle.std.specs.Prelude.{◌≡◌, ℕ, ◌+◌, Bool, true, false, not, ◌&&◌, ◌||◌, ◌==◌, nat_lt, List, [], ◌∷◌, ◌++◌, length, map, Option, Some, None, is_some, is_none, option_map, option_and_then, unwrap_or, slice_get, slice_set, if◌then◌else◌}
+use Rattle.std.specs.Prelude.{ℕ, ◌+◌, Bool, true, false, not, ◌&&◌, ◌||◌, ◌==◌, nat_lt, List, [], ◌∷◌, ◌++◌, length, Option, Some, None, is_some, is_none, option_map, option_and_then, slice_get, slice_set, if◌then◌else◌}
 use Rattle.std.specs.List.{filter, position, list_all, range_with_len}
 use Rattle.std.specs.Str.{bytes_eq}
 use Rattle.com_msg.specs.Stamp.{Moment}
@@ -20,7 +20,7 @@ use Rattle.com_events.specs.declared.call.Call.{Call}
 use Rattle.com_events.specs.declared.call.Call.TheVariants.{Start, Receive, Count, Send, SwitchInput, SwitchOutput, Arrive, Held as IsHeld, Stop, Finish}
 use Rattle.com_events.specs.declared.reply.Reply.{Reply}
 use Rattle.com_events.specs.declared.reply.Reply.TheVariants.{Started, Waits, AreaIn, Arrived, Done}
-use Rattle.com_state.specs.State.{State, Waiting, UnitMode, dormant, running, waiting_for, stopped, TerminalMode, feeding, holding, ended, UnitState, TerminalState, unit_mode, terminal_mode}
+use Rattle.com_state.specs.State.{State, Waiting, UnitMode, dormant, running, waiting_for, stopped, TerminalMode, feeding, holding, ended, unit_mode, terminal_mode}
 use Rattle.com_state.specs.Queues.{designated, chosen_leaf, leaf_fields, is_ready, receive, counted_area}
 use Rattle.com_state.specs.Destinations.{is_on, send}
 use Rattle.com_state.specs.Switches.{switch_input, switch_output}

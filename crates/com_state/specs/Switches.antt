@@ -1,5 +1,5 @@
 -- ENABLE and DISABLE: the flags of leaves and terminals.
-use Rattle.std.specs.Prelude.{ℕ, ◌-◌, Bool, true, false, not, ◌&&◌, ◌==◌, List, [], ◌∷◌, ◌++◌, length, take, drop, replicate, Option, Some, None, option_map, slice_get, slice_set, if◌then◌else◌}
+use Rattle.std.specs.Prelude.{ℕ, ◌-◌, Bool, true, false, not, ◌==◌, List, [], ◌∷◌, ◌++◌, take, drop, replicate, Option, Some, None, option_map, slice_get, slice_set, if◌then◌else◌}
 use Rattle.std.specs.List.{filter, list_any, list_all, fold}
 use Rattle.std.specs.Str.{bytes_eq}
 use Rattle.com_cd.specs.InputArea.{in_field}

@@ -1,11 +1,10 @@
 -- What a terminal is sent, as bytes.
-use Rattle.std.specs.Prelude.{ℕ, ◌==◌, List, [], ◌∷◌, ◌++◌, map, replicate}
+use Rattle.std.specs.Prelude.{ℕ, ◌==◌, List, [], ◌∷◌, ◌++◌, replicate}
 use Rattle.std.specs.List.{filter, flat_map}
 use Rattle.com_msg.specs.declared.sending.Advance.{Advance}
 use Rattle.com_msg.specs.declared.sending.Advance.TheVariants.{Before, After, BeforePage, AfterPage}
-use Rattle.com_msg.specs.declared.sending.OutSegment.{OutSegment}
 use Rattle.com_msg.specs.declared.sending.OutMessage.{OutMessage}
-use Rattle.com_state.specs.State.{State, Finished}
+use Rattle.com_state.specs.State.{State}
 
 abbrev pub line_feeds : ℕ → List ℕ
 line_feeds n = replicate n 10

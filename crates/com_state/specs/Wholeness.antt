@@ -1,6 +1,6 @@
 -- What holds of every legal history: messages are handed out whole, to one unit each, and in order.
 use Rattle.std.specs.Prelude.{◌≡◌, ℕ, ◌+◌, ◌⊎◌, Bool, true, false, not, ◌&&◌, ◌||◌, ◌==◌, nat_le, if◌then◌else◌, List, [], ◌∷◌, ◌++◌, length, map, Option, Some, None, option_map, option_and_then, slice_get, IsTrue, codes}
-use Rattle.std.specs.List.{concat, filter, filter_map, list_all, list_any, cons_option, last_or}
+use Rattle.std.specs.List.{concat, filter, filter_map, list_all, list_any, cons_option}
 use Rattle.std.specs.Str.{bytes_eq}
 use Rattle.com_msg.specs.declared.message.RawMessage.{RawMessage}
 use Rattle.com_cd.specs.InputArea.{in_field}
@@ -13,7 +13,7 @@ use Rattle.com_events.specs.declared.call.Call.TheVariants.{Receive, Arrive, Sto
 use Rattle.com_events.specs.declared.reply.Reply.{Reply}
 use Rattle.com_events.specs.declared.reply.Reply.TheVariants.{Given}
 use Rattle.com_events.specs.declared.entry.Entry.{Entry}
-use Rattle.com_state.specs.State.{State, UnitMode, stopped, opening, unit_mode}
+use Rattle.com_state.specs.State.{State, stopped, opening, unit_mode}
 use Rattle.com_state.specs.Queues.{Next, designated, next_rest}
 use Rattle.com_state.specs.Steps.{step, unit_number, terminal_number, feed_of}
 use Rattle.com_state.specs.Histories.{Legal, LeadsTo}

@@ -1,5 +1,5 @@
 //! Laws of the definitions. A function here does nothing; its contract is the law.
-ghost use Rattle.std.specs.Prelude.{◌≡◌, ◌≢◌, ℕ, Bool, List, [], Some, codes};
+ghost use Rattle.std.specs.Prelude.{◌≡◌, ◌≢◌, ◌≤◌, ℕ, Bool, List, [], length, Some, codes};
 ghost use Rattle.com_msg.specs.declared.rest.Kind.{Kind as KindOf};
 ghost use Rattle.com_events.specs.declared.call.Party.{Party as PartyOf};
 ghost use Rattle.com_events.specs.declared.call.Party.TheVariants as party;
@@ -45,4 +45,13 @@ pub fn a_refusal_changes_the_status_alone()
         step S (party.Unit name) (made.Receive area kind size no_data)
         ≡ Some (reply.Refused after, next) →
         after ≡ set_in field.Status area (codes "20") }
+{}
+
+/// RECEIVE gives no more characters than it asks for.
+pub fn a_portion_is_no_longer_than_asked()
+    ensures { (S next : SystemState) (name area given text : List ℕ) (kind : KindOf) (size : ℕ)
+        (no_data : Bool) →
+        step S (party.Unit name) (made.Receive area kind size no_data)
+        ≡ Some (reply.Given given text, next) →
+        length text ≤ size }
 {}

@@ -6,8 +6,8 @@ mod laws;
 mod rows;
 
 pub use laws::{
-    a_refusal_changes_the_status_alone, nothing_is_left_of_a_stopped_unit, others_keep_their_rests,
-    step_keeps,
+    a_portion_is_no_longer_than_asked, a_refusal_changes_the_status_alone,
+    nothing_is_left_of_a_stopped_unit, others_keep_their_rests, step_keeps,
 };
 pub use rows::{
     both_wait, empty_segments, first_calls, held_arrival, input_switched, limits, mixed_portions,
