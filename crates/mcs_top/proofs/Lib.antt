@@ -5,6 +5,7 @@ mod LineParts
 mod Lines
 mod Names
 mod Outs
+mod Paths
 mod Performance
 mod ScriptLines
 mod SegmentLists

@@ -9,7 +9,7 @@ use Rattle.com_text.proofs.Fields.{field_of_front}
 use Rattle.com_cd.specs.Designation.{path_fields, Designates}
 use Rattle.com_cd.specs.declared.designation.Designation.{Designation}
 use Rattle.com_cd.specs.declared.designation.Designation.TheVariants.{Path, Malformed}
-use Rattle.mcs_top.specs.System.{is_named}
+use Rattle.mcs_top.specs.Areas.{is_named}
 use Rattle.mcs_top.proofs.LineParts.{eq-bytes_eq, bytes_eq-true}
 
 -- an area that has a queue's name designates the path of that name alone

@@ -1,5 +1,6 @@
 pub mod Network
-pub mod System
+pub mod Model
+pub mod Areas
 pub mod SystemState
 pub mod Journal
 pub mod Script

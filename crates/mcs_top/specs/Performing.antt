@@ -7,7 +7,10 @@ use Rattle.mcs_top.specs.declared.script.LineFault.TheVariants as line_fault
 use Rattle.mcs_top.specs.declared.script.Reason.TheVariants as reason
 use Rattle.mcs_top.specs.declared.script.ScriptFault.{ScriptFault}
 use Rattle.mcs_top.specs.declared.script.ScriptFault.TheVariants.{Refused, Memory}
-use Rattle.mcs_top.specs.System.{State, opening, step, LeadsTo}
+use Rattle.com_state.specs.State.{State, opening}
+use Rattle.com_state.specs.Steps.{step}
+use Rattle.com_state.specs.Histories.{LeadsTo}
+use Rattle.mcs_top.specs.Model.{model_net, model_party, model_call, model_reply, model_history}
 use Rattle.mcs_top.specs.Journal.{IsCallText, HasText, HaveTexts}
 use Rattle.mcs_top.specs.Script.{lines_of, AreCalls}
 use Rattle.mcs_top.specs.Refusal.{IsNotYet, IsNotAllowed, StopsAt}
@@ -17,7 +20,8 @@ pub record DoesLine (line : List ℕ) (history longer : List Entry) (S next : St
   pub entry : Entry
   pub added : longer ≡ history ++ entry ∷ []
   pub text : IsCallText entry.party entry.call line
-  pub stepped : step S entry.party entry.call ≡ Some (entry.reply, next)
+  pub stepped : step S (model_party entry.party) (model_call entry.call)
+      ≡ Some (model_reply entry.reply, next)
   pub written : HasText entry
 
 -- so many lines behind the header were done, and these bytes are left
@@ -27,7 +31,7 @@ pub record HasDone (net : Net) (bytes rest : List ℕ) (history : List Entry) (S
   pub lines : lines_of bytes ≡ before ++ lines_of rest
   pub place : number ≡ length before + 1
   pub calls : AreCalls before history
-  pub done : LeadsTo (opening net) history S
+  pub done : LeadsTo (opening (model_net net)) (model_history history) S
   pub texts : HaveTexts history
 
 abbrev pub fault_at : ℕ → LineFault → ScriptFault

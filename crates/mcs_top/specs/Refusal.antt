@@ -9,7 +9,10 @@ use Rattle.mcs_top.specs.declared.script.Reason.TheVariants.{Size, Text, NotYet,
 use Rattle.mcs_top.specs.declared.script.ScriptFault.{ScriptFault}
 use Rattle.mcs_top.specs.declared.script.ScriptFault.TheVariants.{Refused, Memory}
 use Rattle.mcs_top.specs.Files.{file_limit}
-use Rattle.mcs_top.specs.System.{State, opening, step, LeadsTo}
+use Rattle.com_state.specs.State.{State, opening}
+use Rattle.com_state.specs.Steps.{step}
+use Rattle.com_state.specs.Histories.{LeadsTo}
+use Rattle.mcs_top.specs.Model.{model_net, model_party, model_call, model_history}
 use Rattle.mcs_top.specs.Journal.{IsCallText}
 use Rattle.mcs_top.specs.Script.{lines_of, script_header, AreCalls}
 
@@ -22,7 +25,7 @@ pub record IsNotAllowed (S : State) (line : List ℕ) : Type 0 where
   pub party : Party
   pub call : Call
   pub text : IsCallText party call line
-  pub undefined : step S party call ≡ None
+  pub undefined : step S (model_party party) (model_call call) ≡ None
 
 -- The calls of the lines before were done, and left the state in which this line is refused. The
 -- first line is number 2, behind the header.
@@ -36,7 +39,7 @@ pub record StopsAt (net : Net) (lines : List (List ℕ)) (number : ℕ)
   pub history : List Entry
   pub calls : AreCalls before history
   pub state : State
-  pub done : LeadsTo (opening net) history state
+  pub done : LeadsTo (opening (model_net net)) (model_history history) state
   pub is_refused : refused state line
 
 abbrev pub IsFirstRefused : Net → List ℕ → ℕ → (State → List ℕ → Type 0) → Type 0

@@ -8,7 +8,8 @@ use Rattle.mcs_top.specs.declared.script.Reason.{Reason}
 use Rattle.mcs_top.specs.declared.script.Reason.TheVariants.{Size, Text, NotYet, NotAllowed}
 use Rattle.mcs_top.specs.Files.{file_limit, IsRead, IsUnopened, IsUnreadable, IsUnwritten, HasNoFault}
 use Rattle.mcs_top.specs.Network.{Describes}
-use Rattle.mcs_top.specs.System.{Legal}
+use Rattle.com_state.specs.Histories.{Legal}
+use Rattle.mcs_top.specs.Model.{model_net, model_history}
 use Rattle.mcs_top.specs.Journal.{IsJournal}
 use Rattle.mcs_top.specs.Script.{MakesCallsOf}
 use Rattle.mcs_top.specs.Refusal.{IsRefused}
@@ -44,7 +45,7 @@ pub record IsScriptDone (script_file : List ℕ) (net : Net) (before read : Show
   pub is_read : IsRead script_file script before read
   pub short : length script ≤ file_limit
   pub calls : MakesCallsOf script history
-  pub legal : Legal net history
+  pub legal : Legal (model_net net) (model_history history)
 
 -- Both files were read and closed, and all that the store shows else is as before; the journal is
 -- that of the history of the script's calls.

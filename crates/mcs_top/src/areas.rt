@@ -3,7 +3,9 @@ ghost use Rattle.std.specs.Prelude.{◌≡◌, ◌<◌, length};
 ghost use Rattle.com_msg.specs.Portion.{IsEndKey};
 ghost use Rattle.com_text.specs.Text.{IsText};
 ghost use Rattle.com_text.specs.Digits.{in_digits};
-ghost use Rattle.mcs_top.specs.System.{is_named, given_area, no_data_area, refused_area, with_path, with_origin, with_portion};
+ghost use Rattle.com_cd.specs.declared.status.Status.TheVariants.{S20};
+ghost use Rattle.com_state.specs.Queues.{no_data_area, with_status, with_origin, with_text};
+ghost use Rattle.mcs_top.specs.Areas.{is_named, given_area, with_path};
 
 use com_cd::{Designation, InArea, InField, Status};
 use com_msg::{Portion, Rest};
@@ -46,7 +48,7 @@ pub fn no_data_area(area: &InArea) -> InArea
 
 /// The area after a RECEIVE whose names are no queue's.
 pub fn refused_area(area: &InArea) -> InArea
-    ensures { result ≡ refused_area area.now }
+    ensures { result ≡ with_status S20 area.now }
 {
     let mut area = *area;
     area.set(InField::Status, &Status::S20.bytes());
@@ -76,7 +78,7 @@ fn with_origin(rest: &Rest, mut area: InArea) -> InArea
 fn with_portion(length: &[u8; 4], end_key: &[u8; 1], mut area: InArea) -> InArea
     requires length { IsText length.now }
     requires end_key { IsText end_key.now }
-    ensures { result ≡ with_portion length.now end_key.now area }
+    ensures { result ≡ with_text length.now end_key.now area }
 {
     area.set(InField::Length, length);
     area.set(InField::EndKey, end_key);

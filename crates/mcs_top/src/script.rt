@@ -1,7 +1,8 @@
 //! Doing the calls of a script, in order.
 ghost use Rattle.std.specs.Prelude.{◌≡◌, ◌<◌, ◌≤◌, ◌∷◌, length, IfOk, IfErr, OnOk};
 ghost use Rattle.std.specs.List.{position, position_or_len};
-ghost use Rattle.mcs_top.specs.System.{Legal};
+ghost use Rattle.com_state.specs.Histories.{Legal};
+ghost use Rattle.mcs_top.specs.Model.{model_net, model_history};
 ghost use Rattle.mcs_top.specs.SystemState.{state_of, HasSegments};
 ghost use Rattle.mcs_top.specs.Journal.{HaveTexts};
 ghost use Rattle.mcs_top.specs.Files.{file_limit};
@@ -52,7 +53,7 @@ enum LineFault {
 pub fn perform(alloc: Global, net: &Net, script: &[u8]) -> Result<Rows<Entry>, ScriptFault>
     ensures calls { IfOk result (MakesCallsOf script.now) }
     ensures short { OnOk result (length script.now ≤ file_limit) }
-    ensures legal { IfOk result (Legal net.now) }
+    ensures legal { IfOk result (λ history. Legal (model_net net.now) (model_history history)) }
     ensures texts { IfOk result HaveTexts }
     ensures refused { IfErr result (TellsRefusedLine net.now script.now) }
 {
@@ -75,7 +76,7 @@ pub fn perform(alloc: Global, net: &Net, script: &[u8]) -> Result<Rows<Entry>, S
 /// Does the lines behind the header.
 fn perform_lines(alloc: Global, net: &Net, lines: &[u8]) -> Result<Rows<Entry>, ScriptFault>
     ensures calls { IfOk result (AreCalls (lines_of lines.now)) }
-    ensures legal { IfOk result (Legal net.now) }
+    ensures legal { IfOk result (λ history. Legal (model_net net.now) (model_history history)) }
     ensures texts { IfOk result HaveTexts }
     ensures refused { IfErr result (IsStopped net.now (lines_of lines.now)) }
 {
@@ -116,10 +117,10 @@ fn perform_line(
     history: &mut Rows<Entry>,
     line: &[u8],
 ) -> Result<(), LineFault>
-    requires { HasSegments (state_of system.old) }
+    requires { HasSegments system.old }
     ensures done { OnOk result
         (DoesLine line.now history.old history.new (state_of system.old) (state_of system.new)) }
-    ensures segments { OnOk result (HasSegments (state_of system.new)) }
+    ensures segments { OnOk result (HasSegments system.new) }
     ensures refused { IfErr result (IsLineRefused (state_of system.old) line.now) }
 {
     let Ok(found) = call_text::read(alloc, line) else {

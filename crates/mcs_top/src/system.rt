@@ -1,9 +1,11 @@
 //! The message control system as one machine, for one terminal, one queue and one run unit.
-ghost use Rattle.std.specs.Prelude.{◌≡◌, ◌≤◌, length, option_map, None, OnOk, IfOk, IfErr, IfSome, IfNone};
+ghost use Rattle.std.specs.Prelude.{◌≡◌, ◌≤◌, length, [], option_map, None, OnOk, IfOk, IfErr, IfSome, IfNone};
 ghost use Rattle.mcs_top.specs.declared.events.Party.TheVariants as party;
 ghost use Rattle.mcs_top.specs.declared.events.Call.TheVariants as made;
-ghost use Rattle.mcs_top.specs.System.{opening, is_dormant, is_running, may_do_verb, give, next_rest, rest_held};
-ghost use Rattle.mcs_top.specs.SystemState.{state_of, DoesStep, IsWellFormed, HasSegment, HasSegments};
+ghost use Rattle.com_state.specs.State.{opening};
+ghost use Rattle.com_state.specs.Queues.{give};
+ghost use Rattle.mcs_top.specs.Model.{model_net, model_reply};
+ghost use Rattle.mcs_top.specs.SystemState.{state_of, is_dormant, is_running, may_do_verb, first_rest, rest_held, DoesStep, IsWellFormed, HasSegment, HasSegments};
 
 use crate::areas::{given_area, is_named, no_data_area, refused_area};
 use crate::events::{Call, Party, Reply};
@@ -51,7 +53,8 @@ pub struct System<'a> {
 impl<'a> System<'a> {
     /// The system in its opening state.
     pub fn new(alloc: Global, net: &'a Net) -> Self
-        ensures opening { state_of result ≡ opening net.now }
+        ensures opening { state_of result ≡ opening (model_net net.now) }
+        ensures segments { HasSegments result }
     {
         System {
             alloc,
@@ -67,9 +70,9 @@ impl<'a> System<'a> {
     /// Does a call, where it is allowed. After want of memory the state is not to be used.
     pub fn apply(&mut self, party: &Party, call: &Call) -> Result<Reply, CallFault>
         requires call { IsWellFormed call.now }
-        requires segments { HasSegments (state_of self.old) }
+        requires segments { HasSegments self.old }
         ensures step { DoesStep (state_of self.old) party.now call.now result (state_of self.new) }
-        ensures segments { OnOk result (HasSegments (state_of self.new)) }
+        ensures segments { OnOk result (HasSegments self.new) }
     {
         match party {
             Party::Unit(unit) => match call {
@@ -85,33 +88,33 @@ impl<'a> System<'a> {
     }
 
     fn is_dormant(&self) -> bool
-        ensures { result ≡ is_dormant (state_of self.now).unit }
+        ensures { result ≡ is_dormant self.now.unit }
     {
         matches!(self.unit, Mode::Dormant)
     }
 
     fn is_running(&self) -> bool
-        ensures { result ≡ is_running (state_of self.now).unit }
+        ensures { result ≡ is_running self.now.unit }
     {
         matches!(self.unit, Mode::Running)
     }
 
     /// Whether this is the unit, it is running, and it has not done all its verbs.
     fn may_do_verb(&self, unit: &Name) -> bool
-        ensures { result ≡ may_do_verb (state_of self.now) unit.now }
+        ensures { result ≡ may_do_verb self.now unit.now }
     {
-        unit.as_bytes() == self.net.unit.name.as_bytes()
+        self.net.unit.name.as_bytes() == unit.as_bytes()
             && self.is_running()
             && self.verbs < MAX_VERBS
     }
 
     fn start(&mut self, unit: &Name) -> Result<Reply, CallFault>
-        requires { HasSegments (state_of self.old) }
+        requires { HasSegments self.old }
         ensures step { DoesStep (state_of self.old) (party.Unit unit.now) made.Start result
             (state_of self.new) }
-        ensures segments { OnOk result (HasSegments (state_of self.new)) }
+        ensures segments { OnOk result (HasSegments self.new) }
     {
-        if unit.as_bytes() != self.net.unit.name.as_bytes() || !self.is_dormant() {
+        if self.net.unit.name.as_bytes() != unit.as_bytes() || !self.is_dormant() {
             return Err(CallFault::NotAllowed);
         }
         self.unit = Mode::Running;
@@ -126,10 +129,10 @@ impl<'a> System<'a> {
         size: u32,
     ) -> Result<Reply, CallFault>
         requires size { (1 ≤ size) × (size ≤ 2000) }
-        requires segments { HasSegments (state_of self.old) }
+        requires segments { HasSegments self.old }
         ensures step { DoesStep (state_of self.old) (party.Unit unit.now)
             (made.Receive area.now kind size) result (state_of self.new) }
-        ensures segments { OnOk result (HasSegments (state_of self.new)) }
+        ensures segments { OnOk result (HasSegments self.new) }
     {
         if !self.may_do_verb(unit) {
             return Err(CallFault::NotAllowed);
@@ -151,13 +154,16 @@ impl<'a> System<'a> {
     /// Takes out what a RECEIVE goes on with: the rest that the unit holds, or else the message
     /// that came first.
     fn next_rest(&mut self) -> Option<Rest>
-        requires { HasSegments (state_of self.old) }
-        ensures rest { option_map (λ rest. (rest, (state_of self.new).waiting)) result ≡ next_rest
-            (state_of self.old).held (state_of self.old).waiting }
-        ensures left { state_of self.new ≡ record (state_of self.old)
-            { waiting = (state_of self.new).waiting; held = None } }
+        requires { HasSegments self.old }
+        ensures rest { option_map (λ rest. (rest, self.new.waiting.items)) result
+            ≡ first_rest self.old.held self.old.waiting.items }
+        ensures left { state_of self.new ≡ record (state_of self.old) {
+          waiting = (state_of self.new).waiting;
+          held = [];
+        } }
+        ensures none_held { self.new.held ≡ None }
         ensures none { IfNone result (state_of self.new ≡ state_of self.old) }
-        ensures segments { HasSegments (state_of self.new) }
+        ensures segments { HasSegments self.new }
         ensures some { IfSome result HasSegment }
     {
         match self.held.take() {
@@ -179,10 +185,12 @@ impl<'a> System<'a> {
     ) -> Result<Reply, CallFault>
         requires size { (1 ≤ size) × (size ≤ 2000) }
         requires segment { HasSegment rest }
-        requires segments { HasSegments (state_of self.old) }
-        ensures given { IfOk result (λ reply. (reply, state_of self.new)
-            ≡ give (state_of self.old) area.now kind size rest) }
-        ensures segments { OnOk result (HasSegments (state_of self.new)) }
+        requires none_held { self.old.held ≡ None }
+        requires segments { HasSegments self.old }
+        ensures given { IfOk result (λ reply. (model_reply reply, state_of self.new)
+            ≡ give (state_of self.old) 0 area.now kind size
+            (record { leaf = 0; rest = rest; waiting = (state_of self.old).waiting })) }
+        ensures segments { OnOk result (HasSegments self.new) }
         ensures memory { IfErr result (λ fault. fault ≡ CallFault.Memory) }
     {
         let Ok(portion) = rest.take(kind, size) else {
@@ -203,12 +211,12 @@ impl<'a> System<'a> {
         message: &RawMessage,
     ) -> Result<Reply, CallFault>
         requires message { 1 ≤ length message.now.segments }
-        requires segments { HasSegments (state_of self.old) }
+        requires segments { HasSegments self.old }
         ensures step { DoesStep (state_of self.old) (party.Terminal terminal.now)
             (made.Arrive stamp message.now) result (state_of self.new) }
-        ensures segments { OnOk result (HasSegments (state_of self.new)) }
+        ensures segments { OnOk result (HasSegments self.new) }
     {
-        let may = terminal.as_bytes() == self.net.terminal.name.as_bytes()
+        let may = self.net.terminal.name.as_bytes() == terminal.as_bytes()
             && self.arrivals < MAX_ARRIVALS;
         if !may {
             return Err(CallFault::NotAllowed);

@@ -8,7 +8,7 @@ abbrev pub invariant-loop-rest : goal.invariant-loop-rest
 invariant-loop-rest l = record {
   done : HasDone l.net l.fn.lines l.rest l.history (state_of l.system) l.number;
   few : l.number + length l.rest ≤ length l.fn.lines + 1;
-  segments : HasSegments (state_of l.system);
+  segments : HasSegments l.system;
 }
 
 abbrev pub decreases-loop-rest : goal.decreases-loop-rest
