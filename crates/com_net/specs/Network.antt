@@ -1,13 +1,11 @@
 -- What a network holds: the limits, and that names and places are of this network.
-use Rattle.std.specs.Prelude.{◌≡◌, ℕ, ◌<◌, ◌≤◌, ◌-◌, Bool, true, not, ◌&&◌, ◌==◌, nat_le, List, [], ◌∷◌, length, slice_index, IsTrue, Option, Some, None, IfSome}
+use Rattle.std.specs.Prelude.{◌≡◌, ℕ, ◌<◌, ◌≤◌, ◌-◌, Bool, true, not, ◌&&◌, ◌||◌, ◌==◌, nat_le, List, [], ◌∷◌, length, slice_index, IsTrue, IfSome}
 use Rattle.std.specs.List.{list_all, list_any, AllByRecursion}
 use Rattle.std.specs.Str.{bytes_eq}
 use Rattle.com_text.specs.Text.{is_text}
+use Rattle.com_text.specs.Name.{is_letter, is_digit}
 use Rattle.com_tree.specs.declared.tree.TreeRow.{TreeRow}
-use Rattle.com_tree.specs.declared.tree.Leaf.{Leaf}
-use Rattle.com_tree.specs.declared.tree.Node.{Node}
-use Rattle.com_tree.specs.Written.{leaf_count, top_count}
-use Rattle.com_net.specs.declared.net.Feed.{Feed}
+use Rattle.com_tree.specs.Written.{leaf_count, top_count, has_name}
 use Rattle.com_net.specs.declared.net.Terminal.{Terminal}
 use Rattle.com_net.specs.declared.net.UnitRow.{UnitRow}
 use Rattle.com_net.specs.declared.net.Net.{Net}
@@ -17,6 +15,21 @@ abbrev pub is_password : List ℕ → Bool
 is_password text =
     ((nat_le 1 (length text) && nat_le (length text) 10) && is_text text)
     && not (slice_index text (length text - 1) == 32)
+
+abbrev pub is_small_letter : ℕ → Bool
+is_small_letter byte = nat_le 97 byte && nat_le byte 122
+
+-- letters, digits, periods, hyphens and underscores
+abbrev pub is_file_name_byte : ℕ → Bool
+is_file_name_byte byte =
+    (((is_letter byte || is_small_letter byte) || is_digit byte) || byte == 46)
+    || (byte == 45 || byte == 95)
+
+-- one to 64 such characters, the first no period
+abbrev pub is_file_name : List ℕ → Bool
+is_file_name name =
+    ((nat_le 1 (length name) && nat_le (length name) 64) && list_all is_file_name_byte name)
+    && not (slice_index name 0 == 46)
 
 -- no two of these names are the same
 abbrev pub are_distinct : List (List ℕ) → Bool
@@ -31,9 +44,14 @@ abbrev pub names_of_units : List UnitRow → List (List ℕ)
 names_of_units [] = []
 names_of_units (unit ∷ units) = unit.name ∷ names_of_units units
 
--- the terminal's messages wait on a leaf of this tree
+-- no tree has this name
+abbrev pub is_no_top : List TreeRow → List ℕ → Bool
+is_no_top tree name = not (list_any (has_name 1 name) tree)
+
+-- the terminal's messages come from a file, and wait on a leaf of this tree
 abbrev pub IsFedOf : List TreeRow → Terminal → Type 0
-IsFedOf tree terminal = IfSome terminal.feed (λ feed. feed.leaf.number < leaf_count tree)
+IsFedOf tree terminal = IfSome terminal.feed
+    (λ feed. IsTrue (is_file_name feed.file) × (feed.leaf.number < leaf_count tree))
 
 -- the unit's schedule is a node of this tree
 abbrev pub IsScheduledOf : List TreeRow → UnitRow → Type 0
@@ -47,6 +65,8 @@ pub record IsNet (net : Net) : Type 0 where
   pub few_units : length net.units ≤ 16
   pub terminals_distinct : IsTrue (are_distinct (names_of_terminals net.terminals))
   pub units_distinct : IsTrue (are_distinct (names_of_units net.units))
+  pub apart : IsTrue (list_all (is_no_top net.tree) (names_of_terminals net.terminals))
+  pub sources : IsTrue (list_all (λ unit. is_file_name unit.source) net.units)
   pub terminal_passwords : IsTrue
       (list_all (λ terminal. is_password terminal.password) net.terminals)
   pub passwords : length net.queue_passwords ≡ top_count net.tree

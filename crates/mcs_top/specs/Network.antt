@@ -1,37 +1,16 @@
 -- The network of a description: a TOML document with exactly these keys, for one terminal, one
 -- queue and one run unit.
-use Rattle.std.specs.Prelude.{◌≡◌, ℕ, ℤ, pos, ◌-◌, Bool, true, false, not, ◌&&◌, ◌||◌, ◌==◌, nat_le, List, [], ◌∷◌, length, slice_index, Option, Some, None, option_and_then, if◌then◌else◌, codes, IsUtf8}
-use Rattle.std.specs.List.{list_all, list_any}
+use Rattle.std.specs.Prelude.{◌≡◌, ℕ, ℤ, pos, Bool, true, false, ◌&&◌, ◌==◌, List, [], ◌∷◌, Option, Some, None, option_and_then, if◌then◌else◌, codes, IsUtf8}
+use Rattle.std.specs.List.{list_any}
 use Rattle.std.specs.Str.{bytes_eq}
 use Rattle.toml.specs.Data.{Data, Items, no_items, item, Members, no_members, member, get_member, as_str, as_integer, as_array, as_table}
 use Rattle.toml.specs.Parse.{parse_document}
-use Rattle.com_text.specs.Text.{is_text}
-use Rattle.com_text.specs.Name.{is_name, is_digit, is_letter}
+use Rattle.com_text.specs.Name.{is_name}
+pub use Rattle.com_net.specs.Network.{is_password, is_file_name, is_file_name_byte}
 use Rattle.mcs_top.specs.declared.net.Net.{Net}
 use Rattle.mcs_top.specs.declared.net.Terminal.{Terminal}
 use Rattle.mcs_top.specs.declared.net.Queue.{Queue}
 use Rattle.mcs_top.specs.declared.net.RunUnit.{RunUnit}
-
-abbrev is_small_letter : ℕ → Bool
-is_small_letter byte = nat_le 97 byte && nat_le byte 122
-
--- letters, digits, periods, hyphens and underscores
-abbrev pub is_file_name_byte : ℕ → Bool
-is_file_name_byte byte =
-    (((is_letter byte || is_small_letter byte) || is_digit byte) || byte == 46)
-    || (byte == 45 || byte == 95)
-
--- one to 64 such characters, the first no period
-abbrev pub is_file_name : List ℕ → Bool
-is_file_name name =
-    ((nat_le 1 (length name) && nat_le (length name) 64) && list_all is_file_name_byte name)
-    && not (slice_index name 0 == 46)
-
--- one to ten characters of a text, the last no space
-abbrev pub is_password : List ℕ → Bool
-is_password text =
-    ((nat_le 1 (length text) && nat_le (length text) 10) && is_text text)
-    && not (slice_index text (length text - 1) == 32)
 
 -- each key of a table is one of these
 abbrev pub has_only : List (List ℕ) → Members → Bool
