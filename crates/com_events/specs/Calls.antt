@@ -2,6 +2,10 @@
 use Rattle.std.specs.Prelude.{◌≡◌, ℕ, ◌+◌, ◌^◌, ◌<◌, ◌≤◌, List, [], ◌∷◌, length, Option, Some, None, IfSome}
 use Rattle.std.specs.List.{concat, AllByRecursion}
 use Rattle.com_text.specs.Text.{IsText}
+use Rattle.com_text.specs.Name.{IsName}
+use Rattle.com_msg.specs.Stamp.{IsMoment}
+use Rattle.com_cd.specs.InputArea.{IsInputArea}
+use Rattle.com_cd.specs.OutputArea.{IsOutputArea}
 use Rattle.com_msg.specs.declared.framing.FrameFault.{FrameFault}
 use Rattle.com_msg.specs.declared.message.RawMessage.{RawMessage}
 use Rattle.com_msg.specs.declared.sending.Advance.{Advance}
@@ -33,7 +37,11 @@ IsPart (part.Egi advance) = IsAdvance advance
 
 -- an item of 1 to 2,000 characters
 abbrev pub IsItem : List ℕ → Type 0
-IsItem item = (1 ≤ length item) × (length item ≤ 2000)
+IsItem item = IsText item × (1 ≤ length item) × (length item ≤ 2000)
+
+-- a key of at most 10 characters
+abbrev pub IsKey : List ℕ → Type 0
+IsKey key = IsText key × (length key ≤ 10)
 
 abbrev pub IsSegment : List ℕ → Type 0
 IsSegment segment = IsText segment × (length segment ≤ 2000)
@@ -57,12 +65,13 @@ IsEndReason finish.Idle = Unit {0}
 -- a call whose parts are in their ranges
 abbrev pub IsWellFormed : Call → Type 0
 IsWellFormed Start = Unit {0}
-IsWellFormed (Receive area kind size no_data) = (1 ≤ size) × (size ≤ 2000)
-IsWellFormed (Count area) = Unit {0}
-IsWellFormed (Send area part item) = IsPart part × IfSome item IsItem
-IsWellFormed (SwitchInput on terminal area key) = length key ≤ 10
-IsWellFormed (SwitchOutput on area key) = length key ≤ 10
-IsWellFormed (Arrive stamp message) = IsTerminalMessage message
+IsWellFormed (Receive area kind size no_data) =
+    IsInputArea area × (1 ≤ size) × (size ≤ 2000)
+IsWellFormed (Count area) = IsInputArea area
+IsWellFormed (Send area part item) = IsOutputArea area × IsPart part × IfSome item IsItem
+IsWellFormed (SwitchInput on terminal area key) = IsInputArea area × IsKey key
+IsWellFormed (SwitchOutput on area key) = IsOutputArea area × IsKey key
+IsWellFormed (Arrive stamp message) = IsMoment stamp × IsTerminalMessage message
 IsWellFormed Held = Unit {0}
 IsWellFormed (Stop reason) = Unit {0}
 IsWellFormed (Finish reason) = IsEndReason reason
@@ -80,9 +89,10 @@ IsUnitCall (Arrive stamp message) = ⊥
 IsUnitCall Held = ⊥
 IsUnitCall (Finish reason) = ⊥
 
+-- a named party, and a call of its sort
 abbrev pub IsCallOf : Party → Call → Type 0
-IsCallOf (party.Unit name) call = IsUnitCall call
-IsCallOf (party.Terminal name) call = IsUnitCall call → ⊥
+IsCallOf (party.Unit name) call = IsName name × IsUnitCall call
+IsCallOf (party.Terminal name) call = IsName name × (IsUnitCall call → ⊥)
 
 -- the four names that START hands over, 48 characters of a text
 abbrev pub AreNames : List ℕ → Type 0
@@ -91,14 +101,15 @@ AreNames names = IsText names × (length names ≡ 48)
 -- the reply is one that such a call may be answered
 abbrev pub IsReplyTo : Call → Reply → Type 0
 IsReplyTo Start (Started names) = IfSome names AreNames
-IsReplyTo (Receive area kind size no_data) (Given given text) = length text ≤ 2000
-IsReplyTo (Receive area kind size no_data) (NoData after) = Unit {0}
-IsReplyTo (Receive area kind size no_data) (Refused after) = Unit {0}
+IsReplyTo (Receive area kind size no_data) (Given after text) =
+    IsInputArea after × IsText text × (length text ≤ 2000)
+IsReplyTo (Receive area kind size no_data) (NoData after) = IsInputArea after
+IsReplyTo (Receive area kind size no_data) (Refused after) = IsInputArea after
 IsReplyTo (Receive area kind size no_data) Waits = Unit {0}
-IsReplyTo (Count area) (AreaIn after) = Unit {0}
-IsReplyTo (Send area part item) (AreaOut after) = Unit {0}
-IsReplyTo (SwitchInput on terminal area key) (AreaIn after) = Unit {0}
-IsReplyTo (SwitchOutput on area key) (AreaOut after) = Unit {0}
+IsReplyTo (Count area) (AreaIn after) = IsInputArea after
+IsReplyTo (Send area part item) (AreaOut after) = IsOutputArea after
+IsReplyTo (SwitchInput on terminal area key) (AreaIn after) = IsInputArea after
+IsReplyTo (SwitchOutput on area key) (AreaOut after) = IsOutputArea after
 IsReplyTo (Arrive stamp message) (Arrived number) = (1 ≤ number) × (number < 10 ^ 18)
 IsReplyTo Held Done = Unit {0}
 IsReplyTo (Stop reason) Done = Unit {0}

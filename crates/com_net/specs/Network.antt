@@ -3,9 +3,9 @@ use Rattle.std.specs.Prelude.{◌≡◌, ℕ, ◌<◌, ◌≤◌, ◌-◌, Bool,
 use Rattle.std.specs.List.{list_all, list_any, AllByRecursion}
 use Rattle.std.specs.Str.{bytes_eq}
 use Rattle.com_text.specs.Text.{is_text}
-use Rattle.com_text.specs.Name.{is_letter, is_digit}
+use Rattle.com_text.specs.Name.{is_name, is_letter, is_digit}
 use Rattle.com_tree.specs.declared.tree.TreeRow.{TreeRow}
-use Rattle.com_tree.specs.Written.{leaf_count, top_count, has_name}
+use Rattle.com_tree.specs.Written.{IsWritten, leaf_count, top_count, has_name}
 use Rattle.com_net.specs.declared.net.Terminal.{Terminal}
 use Rattle.com_net.specs.declared.net.UnitRow.{UnitRow}
 use Rattle.com_net.specs.declared.net.Net.{Net}
@@ -59,6 +59,9 @@ IsScheduledOf tree unit = IfSome unit.schedule (λ node. node.row < length tree)
 
 -- what every network holds
 pub record IsNet (net : Net) : Type 0 where
+  pub trees : IsWritten net.tree
+  pub terminal_names : IsTrue (list_all is_name (names_of_terminals net.terminals))
+  pub unit_names : IsTrue (list_all is_name (names_of_units net.units))
   pub some_terminal : 1 ≤ length net.terminals
   pub few_terminals : length net.terminals ≤ 32
   pub some_unit : 1 ≤ length net.units

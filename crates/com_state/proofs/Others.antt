@@ -10,7 +10,7 @@ use Rattle.com_events.specs.declared.call.Party.TheVariants as party
 use Rattle.com_events.specs.declared.call.StopReason.{StopReason}
 use Rattle.com_events.specs.declared.call.Call.TheVariants as made
 use Rattle.com_events.specs.declared.reply.Reply.{Reply}
-use Rattle.com_state.specs.State.{State, Held, unit_mode, waiting_for, stopped}
+use Rattle.com_state.specs.State.{State, Held, Begun, unit_mode, waiting_for, stopped}
 use Rattle.com_state.specs.Queues.{Next, designated, is_held_on, without_held, with_held, next_rest, receive_next, receive, is_ready}
 use Rattle.com_state.specs.Steps.{step, unit_step, unit_number, with_reply, with_verb, with_unit_mode, receive_running, step_receive, is_waiting_for, is_running, may_do_verb, may_stop}
 use Rattle.com_state.specs.Laws.{rests_of, begun_of}
@@ -107,4 +107,31 @@ nothing_left S next name unit reason reply found h =
     subst (λ (p : Reply × State). (rests_of p.1 unit ≡ []) × (begun_of p.1 unit ≡ [])) stopped_there (
       ap (filter (λ h. h.unit == unit)) same.held ∙ none_left (λ h. h.unit == unit) S.held,
       ap (filter (λ b. b.unit == unit)) same.begun ∙ none_left (λ b. b.unit == unit) S.begun,
+    )
+
+-- what is left out of one is no part of what is looked for
+others_left : {X : Type 0} (number : X → ℕ) (unit other : ℕ) (xs : List X) → other ≢ unit
+    → filter (λ x. number x == other) (filter (λ x. not (number x == unit)) xs) ≡ filter (λ x. number x == other) xs
+others_left {X} number unit other [] ne = refl
+others_left {X} number unit other (x ∷ xs) ne = elim (cases_Bool (number x == unit)) [
+  | inl out ↦
+      let of_unit : number x ≡ unit = eqb-true (number x) unit out in
+      rw (out, ne_eqb (number x) other (λ e. ne (sym e ∙ of_unit))) (others_left number unit other xs ne)
+  | inr stays ↦ elim (cases_Bool (number x == other)) [
+    | inl here ↦ rw (stays, here) (ap (λ rest. x ∷ rest) (others_left number unit other xs ne))
+    | inr elsewhere ↦ rw (stays, elsewhere) (others_left number unit other xs ne)
+  ]
+]
+
+-- a unit that stops leaves the others
+pub others_left_by_stop : (S next : State) (name : List ℕ) (unit other : ℕ) (reason : StopReason) (reply : Reply) → unit_number S.net name ≡ Some unit → other ≢ unit
+    → step S (party.Unit name) (made.Stop reason) ≡ Some (reply, next) → (rests_of next other ≡ rests_of S other) × (begun_of next other ≡ begun_of S other)
+others_left_by_stop S next name unit other reason reply found ne h =
+    let here = rw (found, step) at h in
+    let stopped_there = next_if-Some (may_stop S unit reason) _ _ here in
+    let mid = record S { held = filter (λ h. not (h.unit == unit)) S.held; begun = filter (λ b. not (b.unit == unit)) S.begun } in
+    let same = queues_unit_mode unit stopped mid in
+    subst (λ (p : Reply × State). (rests_of p.1 other ≡ rests_of S other) × (begun_of p.1 other ≡ begun_of S other)) stopped_there (
+      ap (filter (λ h. h.unit == other)) same.held ∙ others_left (λ (h : Held). h.unit) unit other S.held ne,
+      ap (filter (λ b. b.unit == other)) same.begun ∙ others_left (λ (b : Begun). b.unit) unit other S.begun ne,
     )

@@ -9,3 +9,4 @@ pub mod Transcripts
 pub mod Laws
 pub mod Rows
 pub mod FurtherRows
+pub mod OutputRows

@@ -3,8 +3,9 @@ use Rattle.std.specs.Prelude.{◌≡◌, ℕ, ◌+◌, ◌⊎◌, Bool, true, fa
 use Rattle.std.specs.List.{concat, filter, filter_map, list_all, list_any, cons_option}
 use Rattle.std.specs.Str.{bytes_eq}
 use Rattle.com_msg.specs.declared.message.RawMessage.{RawMessage}
-use Rattle.com_cd.specs.InputArea.{in_field}
-use Rattle.com_cd.specs.declared.input_area.InField.TheVariants as field
+use Rattle.com_msg.specs.declared.message.End.TheVariants.{Emi, Egi}
+use Rattle.com_msg.specs.declared.rest.Kind.{Kind}
+use Rattle.com_msg.specs.Portion.{take_portion, last_key}
 use Rattle.com_net.specs.declared.net.Net.{Net}
 use Rattle.com_events.specs.declared.call.Party.{Party}
 use Rattle.com_events.specs.declared.call.Party.TheVariants as party
@@ -28,21 +29,21 @@ pub record HandedOut : Type 0 where
   pub leaf : ℕ
   pub arrival : ℕ
   pub text : List ℕ
-  pub end_key : List ℕ
+  pub end_key : ℕ
 
-abbrev pub handed_of : ℕ → List ℕ → List ℕ → Next → HandedOut
-handed_of unit given text next = record {
+abbrev pub handed_of : ℕ → Kind → ℕ → List ℕ → Next → HandedOut
+handed_of unit kind size text next = record {
   unit = unit;
   leaf = next.leaf;
   arrival = next.rest.arrival;
   text = text;
-  end_key = in_field field.EndKey given;
+  end_key = (take_portion kind size next.rest).0.end_key;
 }
 
 -- From: what an entry hands out, by what RECEIVE goes on with in the state before it
 abbrev pub handed_by : State → Party → Call → Reply → Option HandedOut
 handed_by S (party.Unit name) (Receive area kind size no_data) (Given given text) =
-    option_and_then (λ unit. option_map (handed_of unit given text)
+    option_and_then (λ unit. option_map (handed_of unit kind size text)
     (option_and_then (next_rest S unit) (designated S.net area))) (unit_number S.net name)
 handed_by S _ _ _ = None
 
@@ -71,8 +72,8 @@ abbrev pub arrivals_of : Net → List Entry → List (ℕ × RawMessage)
 arrivals_of net history = filter_map (λ entry. arrival_by net entry.party entry.call) history
 
 -- an end key that ends a message
-abbrev pub is_last_key : List ℕ → Bool
-is_last_key key = bytes_eq key (codes "2") || bytes_eq key (codes "3")
+abbrev pub is_last_key : ℕ → Bool
+is_last_key key = key == last_key Emi || key == last_key Egi
 
 -- no portion follows one that ends the message
 abbrev pub are_ended_once : List HandedOut → Bool

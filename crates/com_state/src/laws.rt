@@ -55,3 +55,11 @@ pub fn a_portion_is_no_longer_than_asked()
         ≡ Some (reply.Given given text, next) →
         length text ≤ size }
 {}
+
+/// A unit that stops leaves what the others hold and have begun to send.
+pub fn others_are_left_by_a_stop()
+    ensures { (S next : SystemState) (name : List ℕ) (unit other : ℕ) (reason : ReasonOf)
+        (reply : ReplyOf) → unit_number S.net name ≡ Some unit → other ≢ unit →
+        step S (party.Unit name) (made.Stop reason) ≡ Some (reply, next) →
+        (rests_of next other ≡ rests_of S other) × (begun_of next other ≡ begun_of S other) }
+{}

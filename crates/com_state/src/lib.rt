@@ -3,12 +3,15 @@
 #![tactic(auto)]
 
 mod laws;
+mod output_rows;
 mod rows;
 
 pub use laws::{
     a_portion_is_no_longer_than_asked, a_refusal_changes_the_status_alone,
-    nothing_is_left_of_a_stopped_unit, others_keep_their_rests, step_keeps,
+    nothing_is_left_of_a_stopped_unit, others_are_left_by_a_stop, others_keep_their_rests,
+    step_keeps,
 };
+pub use output_rows::{counted_destinations, further_limits, key_order, transcripts, two_senders};
 pub use rows::{
     both_wait, empty_segments, first_calls, held_arrival, input_switched, limits, mixed_portions,
     networks, never_started, output_switched, outputs_switched, portions_of_five, purged_at_stop,

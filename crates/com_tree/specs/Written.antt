@@ -2,6 +2,7 @@
 use Rattle.std.specs.Prelude.{◌≡◌, ℕ, ◌+◌, ◌-◌, ◌≤◌, Bool, true, false, not, ◌&&◌, ◌==◌, nat_le, nat_lt, List, [], ◌∷◌, ◌++◌, length, take, IsTrue, Option, Some, None, count_by, if◌then◌else◌}
 use Rattle.std.specs.List.{list_all, list_any, take_while}
 use Rattle.std.specs.Str.{bytes_eq}
+use Rattle.com_text.specs.Name.{is_name}
 use Rattle.com_tree.specs.declared.tree.TreeRow.{TreeRow}
 use Rattle.com_tree.specs.declared.tree.Choose.{Choose}
 
@@ -65,4 +66,5 @@ pub record IsWritten (rows : List TreeRow) : Type 0 where
   pub forest : IsTrue (is_forest rows)
   pub levels : IsTrue (list_all (λ row. nat_le 1 row.depth && nat_le row.depth 4) rows)
   pub leaves : leaf_count rows ≤ 64
+  pub names : IsTrue (list_all (λ row. is_name row.name) rows)
   pub distinct : IsTrue (are_siblings_distinct rows)
