@@ -4,4 +4,4 @@ mod Stepped
 mod Others
 mod Refusals
 pub mod Portions
-mod Runs
+pub mod Runs

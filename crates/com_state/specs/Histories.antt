@@ -42,3 +42,7 @@ call_made entry = (entry.party, entry.call)
 -- After: the state that a history leaves, where its calls can be done
 abbrev pub state_after : Net → List Entry → Option State
 state_after net history = option_map (λ r. r.1) (run net (map call_made history))
+
+-- a run of the history's calls gives the history
+abbrev pub IsRun : Net → List Entry → Type 0
+IsRun net history = option_map (λ r. r.0) (run net (map call_made history)) ≡ Some history

@@ -8,7 +8,7 @@ use Rattle.mcs_top.specs.declared.script.Reason.{Reason}
 use Rattle.mcs_top.specs.declared.script.Reason.TheVariants.{Size, Text, NotYet, NotAllowed}
 use Rattle.mcs_top.specs.Files.{file_limit, IsRead, IsUnopened, IsUnreadable, IsUnwritten, HasNoFault}
 use Rattle.mcs_top.specs.Network.{Describes}
-use Rattle.com_state.specs.Histories.{Legal}
+use Rattle.com_state.specs.Histories.{Legal, IsRun}
 use Rattle.mcs_top.specs.Model.{model_net, model_history}
 use Rattle.mcs_top.specs.Journal.{IsJournal}
 use Rattle.mcs_top.specs.Script.{MakesCallsOf}
@@ -46,6 +46,7 @@ pub record IsScriptDone (script_file : List ℕ) (net : Net) (before read : Show
   pub short : length script ≤ file_limit
   pub calls : MakesCallsOf script history
   pub legal : Legal (model_net net) (model_history history)
+  pub ran : IsRun (model_net net) (model_history history)
 
 -- Both files were read and closed, and all that the store shows else is as before; the journal is
 -- that of the history of the script's calls.

@@ -1,7 +1,7 @@
 //! Doing the calls of a script, in order.
 ghost use Rattle.std.specs.Prelude.{◌≡◌, ◌<◌, ◌≤◌, ◌∷◌, length, IfOk, IfErr, OnOk};
 ghost use Rattle.std.specs.List.{position, position_or_len};
-ghost use Rattle.com_state.specs.Histories.{Legal};
+ghost use Rattle.com_state.specs.Histories.{Legal, IsRun};
 ghost use Rattle.mcs_top.specs.Model.{model_net, model_history};
 ghost use Rattle.mcs_top.specs.SystemState.{state_of, HasSegments};
 ghost use Rattle.mcs_top.specs.Journal.{HaveTexts};
@@ -54,6 +54,7 @@ pub fn perform(alloc: Global, net: &Net, script: &[u8]) -> Result<Rows<Entry>, S
     ensures calls { IfOk result (MakesCallsOf script.now) }
     ensures short { OnOk result (length script.now ≤ file_limit) }
     ensures legal { IfOk result (λ history. Legal (model_net net.now) (model_history history)) }
+    ensures ran { IfOk result (λ history. IsRun (model_net net.now) (model_history history)) }
     ensures texts { IfOk result HaveTexts }
     ensures refused { IfErr result (TellsRefusedLine net.now script.now) }
 {
