@@ -156,7 +156,8 @@ impl InArea {
     pub fn set(&mut self, field: InField, value: &[u8])
         requires width { length value.now ≡ width_of field }
         requires text { IsText value.now }
-        ensures { self.new ≡ set_in field self.old value.now }
+        ensures area { self.new ≡ set_in field self.old value.now }
+        ensures valid { IsInputArea self.new }
     {
         let start = field.start();
         self.bytes[start..start + field.width()].copy_from_slice(value);

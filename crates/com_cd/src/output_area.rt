@@ -153,7 +153,9 @@ impl OutArea {
         requires within { IsFieldOf (occurrences_of self.old) field }
         requires width { length value.now ≡ out_width field }
         requires text { IsText value.now }
-        ensures { self.new ≡ set_out field self.old value.now }
+        ensures area { self.new ≡ set_out field self.old value.now }
+        ensures valid { IsOutputArea self.new }
+        ensures occurrences { occurrences_of self.new ≡ occurrences_of self.old }
     {
         let start = field.start();
         self.bytes[start..start + field.width()].copy_from_slice(value);

@@ -1,12 +1,11 @@
 -- Which calls are well formed, and which entries have a text.
-use Rattle.std.specs.Prelude.{◌≡◌, ℕ, ◌+◌, ◌^◌, ◌<◌, ◌≤◌, List, [], ◌∷◌, length, Option, Some, None, IfSome}
+use Rattle.std.specs.Prelude.{◌≡◌, ℕ, ◌^◌, ◌<◌, ◌≤◌, List, length, IfSome}
 use Rattle.std.specs.List.{concat, AllByRecursion}
 use Rattle.com_text.specs.Text.{IsText}
 use Rattle.com_text.specs.Name.{IsName}
 use Rattle.com_msg.specs.Stamp.{IsMoment}
 use Rattle.com_cd.specs.InputArea.{IsInputArea}
 use Rattle.com_cd.specs.OutputArea.{IsOutputArea}
-use Rattle.com_msg.specs.declared.framing.FrameFault.{FrameFault}
 use Rattle.com_msg.specs.declared.message.RawMessage.{RawMessage}
 use Rattle.com_msg.specs.declared.sending.Advance.{Advance}
 use Rattle.com_msg.specs.declared.sending.Advance.TheVariants.{Before, After, BeforePage, AfterPage}
@@ -29,6 +28,7 @@ IsAdvance (After lines) = lines ≤ 99
 IsAdvance BeforePage = Unit {0}
 IsAdvance AfterPage = Unit {0}
 
+-- an indicator with an advance of at most 99 lines, or none
 abbrev pub IsPart : Part → Type 0
 IsPart part.Portion = Unit {0}
 IsPart (part.Esi advance) = IsAdvance advance
@@ -43,6 +43,7 @@ IsItem item = IsText item × (1 ≤ length item) × (length item ≤ 2000)
 abbrev pub IsKey : List ℕ → Type 0
 IsKey key = IsText key × (length key ≤ 10)
 
+-- a segment of at most 2,000 characters
 abbrev pub IsSegment : List ℕ → Type 0
 IsSegment segment = IsText segment × (length segment ≤ 2000)
 

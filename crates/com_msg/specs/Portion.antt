@@ -13,17 +13,21 @@ use Rattle.com_msg.specs.declared.rest.Portion.{Portion}
 abbrev pub more_key : ℕ
 more_key = 48
 
+-- the end of a segment
 abbrev pub segment_key : ℕ
 segment_key = 49
 
+-- the end of a message
 abbrev pub last_key : End → ℕ
 last_key Emi = 50
 last_key Egi = 51
 
+-- one of the four keys
 pub record IsEndKey (key : ℕ) : Type 0 where
   pub least : 48 ≤ key
   pub most : key ≤ 51
 
+-- a text with its end key
 abbrev pub portion_of : List ℕ → ℕ → Portion
 portion_of text key = record { text = text; end_key = key }
 

@@ -8,6 +8,7 @@ pub record Moment : Type 0 where
   pub date : List ℕ
   pub time : List ℕ
 
+-- a date with a time
 abbrev pub moment : List ℕ → List ℕ → Moment
 moment date time = record { date = date; time = time }
 
@@ -15,6 +16,7 @@ moment date time = record { date = date; time = time }
 abbrev pub pair_at : List ℕ → ℕ → ℕ
 pair_at digits at = number (slice_range digits at (at + 2))
 
+-- from one number to another
 abbrev pub is_within : ℕ → ℕ → ℕ → Bool
 is_within low high n = nat_le low n && nat_le n high
 
@@ -34,8 +36,10 @@ is_time time =
     (is_within 0 23 (pair_at time 0) && is_within 0 59 (pair_at time 2))
     && is_within 0 59 (pair_at time 4)
 
+-- digits that are a date and a time
 abbrev pub is_moment : Moment → Bool
 is_moment m = has_form m && (is_date m.date && is_time m.time)
 
+-- a date and a time
 abbrev pub IsMoment : Moment → Type 0
 IsMoment m = IsTrue (is_moment m)

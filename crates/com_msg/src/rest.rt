@@ -99,6 +99,7 @@ impl Rest {
         ensures portion { IfOk result (λ portion.
             (portion, self.new) ≡ take_portion kind size self.old) }
         ensures short { IfOk result (λ portion. length portion.text ≤ size) }
+        ensures text { IfOk result (λ portion. IsText portion.text) }
         ensures end_key { IfOk result (λ portion. IsEndKey portion.end_key) }
         ensures err { OnErr result (self.new ≡ self.old) }
     {
@@ -114,6 +115,7 @@ impl Rest {
         requires size { 1 ≤ size }
         ensures portion { IfOk result (λ portion.
             (portion, self.new) ≡ take_portion Kind.Message size self.old) }
+        ensures text { IfOk result (λ portion. IsText portion.text) }
         ensures err { OnErr result (self.new ≡ self.old) }
     {
         let size = size as usize;
@@ -145,6 +147,7 @@ impl Rest {
         requires unspent { 1 ≤ length self.old.segments }
         ensures portion { IfOk result (λ portion.
             (portion, self.new) ≡ take_portion Kind.Segment size self.old) }
+        ensures text { IfOk result (λ portion. IsText portion.text) }
         ensures err { OnErr result (self.new ≡ self.old) }
     {
         let segments = self.message.segments.as_slice();
@@ -188,7 +191,9 @@ fn first_characters(
     size: usize,
 ) -> Result<Text, AllocError>
     requires { taken ≤ length (get_or pieces.now 0 []) }
-    ensures { IfOk result (λ text. text ≡ take size (concat (cut_first taken pieces.now))) }
+    ensures characters { IfOk result
+        (λ text. text ≡ take size (concat (cut_first taken pieces.now))) }
+    ensures text { IfOk result IsText }
 {
     let mut bytes = Vec::new(alloc);
     let mut skipped = taken;
@@ -245,7 +250,8 @@ fn place_behind(pieces: &[Text], reach: usize) -> Place
 /// A text of some characters of a text.
 fn text_of(alloc: Global, characters: &[u8]) -> Result<Text, AllocError>
     requires { IsText characters.now }
-    ensures { IfOk result (λ text. text ≡ characters.now) }
+    ensures characters { IfOk result (λ text. text ≡ characters.now) }
+    ensures text { IfOk result IsText }
 {
     Ok(Text::of_vec(Vec::from_slice(alloc, characters)?))
 }

@@ -16,6 +16,7 @@ is_password text =
     ((nat_le 1 (length text) && nat_le (length text) 10) && is_text text)
     && not (slice_index text (length text - 1) == 32)
 
+-- a to z
 abbrev pub is_small_letter : ℕ → Bool
 is_small_letter byte = nat_le 97 byte && nat_le byte 122
 
@@ -36,10 +37,12 @@ abbrev pub are_distinct : List (List ℕ) → Bool
 are_distinct [] = true
 are_distinct (name ∷ names) = not (list_any (bytes_eq name) names) && are_distinct names
 
+-- in the order of the terminals
 abbrev pub names_of_terminals : List Terminal → List (List ℕ)
 names_of_terminals [] = []
 names_of_terminals (terminal ∷ terminals) = terminal.name ∷ names_of_terminals terminals
 
+-- in the order of the units
 abbrev pub names_of_units : List UnitRow → List (List ℕ)
 names_of_units [] = []
 names_of_units (unit ∷ units) = unit.name ∷ names_of_units units

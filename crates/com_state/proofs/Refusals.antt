@@ -1,64 +1,313 @@
--- What a refused RECEIVE writes.
-use Rattle.std.proofs.Common.{◌≡◌, ℕ, Bool, ◌&&◌, Some, None, Option, List, refl, inl, inr, subst}
-use Rattle.std.specs.Prelude.{◌||◌, is_none, codes}
-use Rattle.std.proofs.lemmas.Bool.{cases_Bool}
+-- What a refused call writes.
+use Rattle.std.proofs.Common.{◌≡◌, ℕ, ◌+◌, ◌-◌, ◌*◌, ◌≤◌, Bool, true, false, ◌&&◌, Some, None, Option, List, [], ◌∷◌, ◌++◌, length, take, drop, refl, sym, ap, ◌∙◌, arith, inl, inr, subst, length-append, append_assoc}
+use Rattle.std.specs.Prelude.{◌||◌, not, is_none, min, IsTrue, if◌then◌else◌, codes, option_map, unwrap_or, slice_get, slice_range}
+use Rattle.std.specs.List.{fold, list_any, list_all, range_with_len}
+use Rattle.std.specs.Str.{bytes_eq}
+use Rattle.std.proofs.lemmas.Bool.{cases_Bool, false≢true}
 use Rattle.std.proofs.lemmas.Option.{none-some, same_Some}
+use Rattle.std.proofs.lemmas.List.{take_at, drop_at, length-take, length-take-le}
+use Rattle.com_text.specs.Digits.{in_digits}
 use Rattle.com_msg.specs.declared.rest.Kind.{Kind}
-use Rattle.com_cd.specs.InputArea.{set_in}
+use Rattle.com_msg.specs.declared.sending.Part.{Part}
+use Rattle.com_cd.specs.InputArea.{set_in, in_field}
+use Rattle.com_cd.specs.OutputArea.{out_field, destination_count}
+use Rattle.com_cd.specs.Status.{status_bytes}
+use Rattle.com_cd.specs.declared.status.Status.{Status}
+use Rattle.com_cd.specs.declared.status.Status.TheVariants.{S00, S10, S20, S30, S40, S50, S60}
 use Rattle.com_cd.specs.declared.input_area.InField.TheVariants as field
+use Rattle.com_cd.specs.declared.output_area.OutField.TheVariants as out
+use Rattle.com_tree.specs.declared.tree.Node.{Node}
+use Rattle.com_tree.specs.Places.{top_of}
+use Rattle.com_events.specs.declared.call.Party.{Party}
 use Rattle.com_events.specs.declared.call.Party.TheVariants as party
+use Rattle.com_events.specs.declared.call.Call.{Call}
 use Rattle.com_events.specs.declared.call.Call.TheVariants as made
 use Rattle.com_events.specs.declared.reply.Reply.{Reply}
-use Rattle.com_events.specs.declared.reply.Reply.TheVariants.{Refused}
+use Rattle.com_events.specs.declared.reply.Reply.TheVariants.{Refused, AreaIn, AreaOut}
+use Rattle.com_events.specs.Calls.{IsWellFormed}
 use Rattle.com_state.specs.State.{State, unit_mode}
-use Rattle.com_state.specs.Queues.{Next, designated, next_rest, receive_next, receive, is_ready}
-use Rattle.com_state.specs.Steps.{step, unit_step, unit_number, with_reply, receive_running, step_receive, is_waiting_for, is_running, may_do_verb}
+use Rattle.com_state.specs.Queues.{Next, designated, next_rest, receive_next, receive, is_ready, with_status, counted_area, waiting_under}
+use Rattle.com_state.specs.Destinations.{terminal_with, destinations, known_of, is_unknown, is_on, with_error_key, with_error_keys, error_key, with_out_status, send, send_text, send_status, sent_text, is_nothing}
+use Rattle.com_state.specs.Switches.{switch_input, switch_output, switch_leaves, switch_terminal, switch_outputs, switch_status, is_key, is_key_of}
+use Rattle.com_state.specs.Steps.{step, unit_step, terminal_step, unit_number, terminal_number, with_verb, with_reply, verb, receive_running, step_receive, is_waiting_for, is_running, may_do_verb}
+use Rattle.com_state.specs.Laws.{is_refusal, Tells, with_status_alone, ChangesStatusAlone}
 use Rattle.com_state.proofs.Frames.{option_cases, next_if-Some}
 
--- where the reply is a refusal, its area is as before but for the status key
-abbrev IsStatusAlone : List ℕ → Reply → Type 0
-IsStatusAlone area (Refused after) = after ≡ set_in field.Status area (codes "20")
-IsStatusAlone area _ = Unit {0}
+-- what is written at a place is read there
+read_back : (area key : List ℕ) (at width : ℕ) → at ≤ length area → length key ≡ width
+    → slice_range (take at area ++ key ++ drop (at + width) area) at (at + width) ≡ key
+read_back area key at width within e =
+    let behind = drop (at + width) area in
+    let dropped : drop at (take at area ++ key ++ behind) ≡ key ++ behind =
+    ap (drop at) (append_assoc (take at area) key behind) ∙ drop_at (take at area) (key ++ behind) at (length-take-le at area within) in
+    let same : (at + width) - at ≡ width = omega arith in
+    rw (dropped, same) (take_at key behind width e)
 
-alone_next : (S : State) (unit : ℕ) (area : List ℕ) (kind : Kind) (size : ℕ) (found : Option Next) → IsStatusAlone area (receive_next S unit area kind size found).0
-alone_next S unit area kind size None = tt
-alone_next S unit area kind size (Some next) = tt
+-- a status key by its two characters
+abbrev status_of : List ℕ → Status
+status_of key =
+    if bytes_eq key (codes "00") then S00
+    else if bytes_eq key (codes "10") then S10
+    else if bytes_eq key (codes "20") then S20
+    else if bytes_eq key (codes "30") then S30
+    else if bytes_eq key (codes "40") then S40
+    else if bytes_eq key (codes "50") then S50
+    else S60
 
-alone_receive : (S : State) (unit : ℕ) (area : List ℕ) (kind : Kind) (size : ℕ) → IsStatusAlone area (receive S unit area kind size).0
-alone_receive S unit area kind size = elim (option_cases (designated S.net area)) [
-  | inl none ↦ rw (none, receive) refl
-  | inr some ↦ rw (some.1, receive) (alone_next S unit area kind size (next_rest S unit some.0))
+status_of_bytes : (status : Status) → status_of (status_bytes status) ≡ status
+status_of_bytes S00 = refl
+status_of_bytes S10 = refl
+status_of_bytes S20 = refl
+status_of_bytes S30 = refl
+status_of_bytes S40 = refl
+status_of_bytes S50 = refl
+status_of_bytes S60 = refl
+
+two_bytes : (status : Status) → length (status_bytes status) ≡ 2
+two_bytes S00 = refl
+two_bytes S10 = refl
+two_bytes S20 = refl
+two_bytes S30 = refl
+two_bytes S40 = refl
+two_bytes S50 = refl
+two_bytes S60 = refl
+
+-- different keys are written differently
+same_status : (one other : Status) → status_bytes one ≡ status_bytes other → one ≡ other
+same_status one other e = sym (status_of_bytes one) ∙ (ap status_of e ∙ status_of_bytes other)
+
+-- an area tells the key that was written in it
+told_in : (area : List ℕ) (own status : Status) → 79 ≤ length area → in_field field.Status (with_status own area) ≡ status_bytes status → own ≡ status
+told_in area own status within e = same_status own status (sym (read_back area (status_bytes own) 79 2 within (two_bytes own)) ∙ e)
+
+told_out : (area : List ℕ) (own status : Status) → 8 ≤ length area → out_field out.Status (with_out_status own area) ≡ status_bytes status → own ≡ status
+told_out area own status within e = same_status own status (sym (read_back area (status_bytes own) 8 2 within (two_bytes own)) ∙ e)
+
+-- what a verb is answered and leaves, where that is a refusal, before it is counted
+abbrev Alone : State → Call → Status → Reply × State → Type 0
+Alone S call status done = IsTrue (is_refusal call status) → Tells done.0 status → (with_status_alone call status ≡ Some done.0) × (done.1 ≡ S)
+
+-- the call's own area with a refusal's key
+refused_in : (S : State) (call : Call) (area : List ℕ) (own status : Status) → ((s : Status) → with_status_alone call s ≡ Some (AreaIn (with_status s area))) → 79 ≤ length area
+    → Alone S call status (AreaIn (with_status own area), S)
+refused_in S call area own status alone within refusal tells =
+    let same = told_in area own status within tells in
+    (alone status ∙ ap (λ s. Some (AreaIn (with_status s area))) (sym same), refl)
+
+refused_out : (S : State) (call : Call) (area : List ℕ) (own status : Status) → ((s : Status) → with_status_alone call s ≡ Some (AreaOut (with_out_status s area))) → 8 ≤ length area
+    → Alone S call status (AreaOut (with_out_status own area), S)
+refused_out S call area own status alone within refusal tells =
+    let same = told_out area own status within tells in
+    (alone status ∙ ap (λ s. Some (AreaOut (with_out_status s area))) (sym same), refl)
+
+-- a key that is none of the call's refusals tells no refusal
+other_key : (call : Call) (own status : Status) → is_refusal call own ≡ false → IsTrue (is_refusal call status) → own ≡ status → ⊥
+other_key call own status other refusal same =
+    let own_refusal : IsTrue (is_refusal call own) = rw same refusal in
+    false≢true (rw other at own_refusal)
+
+done_in : (S next : State) (call : Call) (area : List ℕ) (own status : Status) → is_refusal call own ≡ false → 79 ≤ length area → Alone S call status (AreaIn (with_status own area), next)
+done_in S next call area own status other within refusal tells = absurd (other_key call own status other refusal (told_in area own status within tells))
+
+done_out : (S next : State) (call : Call) (area : List ℕ) (own status : Status) → is_refusal call own ≡ false → 8 ≤ length area → Alone S call status (AreaOut (with_out_status own area), next)
+done_out S next call area own status other within refusal tells = absurd (other_key call own status other refusal (told_out area own status within tells))
+
+-- error keys leave the front of an area
+long_key : (found : List (Option ℕ)) (area : List ℕ) (at : ℕ) → 8 ≤ length area → 8 ≤ length (with_error_key found area at)
+long_key found area at h =
+    let front = take (10 + 13 * at) area in
+    let key = error_key (unwrap_or (slice_get found at) None) in
+    let behind = drop (10 + 13 * at + 1) area in
+    omega (arith, h, length-append (front ++ key) behind, length-append front key, length-take (10 + 13 * at) area)
+
+long_keys : (found : List (Option ℕ)) (places area : List ℕ) → 8 ≤ length area → 8 ≤ length (fold (with_error_key found) area places)
+long_keys found [] area h = h
+long_keys found (at ∷ places) area h = long_keys found places (with_error_key found area at) (long_key found area at h)
+
+-- COUNT
+alone_count : (S : State) (area : List ℕ) (status : Status) → length area ≡ 87 → Alone S (made.Count area) status (AreaIn (counted_area S area), S)
+alone_count S area status whole = elim (option_cases (designated S.net area)) [
+  | inl none ↦ rw (none, counted_area) (refused_in S (made.Count area) area S20 status (λ s. refl) (omega (arith, whole)))
+  | inr some ↦
+      let digits = in_digits (min (waiting_under S some.0) 999999) 6 in
+      let long : 79 ≤ length (set_in field.Count area digits) =
+      omega (arith, whole, length-append (take 81 area ++ digits) (drop 87 area), length-append (take 81 area) digits, length-take-le 81 area (omega (arith, whole))) in
+      rw (some.1, counted_area) (done_in S S (made.Count area) (set_in field.Count area digits) S00 status refl long)
 ]
 
-alone_running : (S : State) (unit : ℕ) (area : List ℕ) (kind : Kind) (size : ℕ) (no_data : Bool) → IsStatusAlone area (receive_running S unit area kind size no_data).0
-alone_running S unit area kind size no_data = elim (cases_Bool ((no_data || is_none (designated S.net area)) || is_ready S unit area)) [
-  | inl now ↦ rw (now, receive_running) (alone_receive S unit area kind size)
-  | inr later ↦ rw (later, receive_running) tt
+-- ENABLE and DISABLE of input
+alone_leaves : (S : State) (on : Bool) (area key : List ℕ) (node : Node) (status : Status) → length area ≡ 87
+    → Alone S (made.SwitchInput on false area key) status (switch_leaves S on area key node)
+alone_leaves S on area key node status whole = elim (cases_Bool (is_key key (slice_get S.net.queue_passwords (top_of S.net.tree node)))) [
+  | inl right ↦ rw (right, switch_leaves) (done_in S _ (made.SwitchInput on false area key) area S00 status refl (omega (arith, whole)))
+  | inr wrong ↦ rw (wrong, switch_leaves) (refused_in S (made.SwitchInput on false area key) area S40 status (λ s. refl) (omega (arith, whole)))
 ]
 
-alone_done : (area : List ℕ) (done : Reply × State) (reply : Reply) (next : State) → done ≡ (reply, next) → IsStatusAlone area done.0 → IsStatusAlone area reply
-alone_done area done reply next e h = subst (λ (p : Reply × State). IsStatusAlone area p.0) e h
+alone_terminal : (S : State) (on : Bool) (area key : List ℕ) (terminal : ℕ) (status : Status) → length area ≡ 87
+    → Alone S (made.SwitchInput on true area key) status (switch_terminal S on area key terminal)
+alone_terminal S on area key terminal status whole = elim (cases_Bool (is_key key (option_map (λ t. t.password) (slice_get S.net.terminals terminal)))) [
+  | inl right ↦ rw (right, switch_terminal) (done_in S _ (made.SwitchInput on true area key) area S00 status refl (omega (arith, whole)))
+  | inr wrong ↦ rw (wrong, switch_terminal) (refused_in S (made.SwitchInput on true area key) area S40 status (λ s. refl) (omega (arith, whole)))
+]
 
-alone_step : (S : State) (unit : ℕ) (area : List ℕ) (kind : Kind) (size : ℕ) (no_data : Bool) (reply : Reply) (next : State) → step_receive S unit area kind size no_data ≡ Some (reply, next) → IsStatusAlone area reply
-alone_step S unit area kind size no_data reply next h = elim (cases_Bool (is_running (unit_mode S unit))) [
-  | inl runs ↦
-      let done = rw (runs, step_receive) at h in
-      alone_done area (receive_running S unit area kind size no_data) reply next (same_Some _ _ done) (alone_running S unit area kind size no_data)
+alone_switch_input : (S : State) (on terminal : Bool) (area key : List ℕ) (status : Status) → length area ≡ 87
+    → Alone S (made.SwitchInput on terminal area key) status (switch_input S on terminal area key)
+alone_switch_input S on false area key status whole = elim (option_cases (designated S.net area)) [
+  | inl none ↦ rw (none, switch_input) (refused_in S (made.SwitchInput on false area key) area S20 status (λ s. refl) (omega (arith, whole)))
+  | inr some ↦ rw (some.1, switch_input) (alone_leaves S on area key some.0 status whole)
+]
+alone_switch_input S on true area key status whole = elim (option_cases (terminal_with S.net (in_field field.Source area))) [
+  | inl none ↦ rw (none, switch_input) (refused_in S (made.SwitchInput on true area key) area S20 status (λ s. refl) (omega (arith, whole)))
+  | inr some ↦ rw (some.1, switch_input) (alone_terminal S on area key some.0 status whole)
+]
+
+-- ENABLE and DISABLE of output
+no_switch_refusal : (on : Bool) (area key : List ℕ) (found : List (Option ℕ)) → is_refusal (made.SwitchOutput on area key) (switch_status found) ≡ false
+no_switch_refusal on area key found = elim (cases_Bool (list_any is_unknown found)) [
+  | inl some ↦ rw (some, switch_status) refl
+  | inr none ↦ rw (none, switch_status) refl
+]
+
+alone_outputs : (S : State) (on : Bool) (area key : List ℕ) (found : List (Option ℕ)) (status : Status) → 8 ≤ length area
+    → Alone S (made.SwitchOutput on area key) status (switch_outputs S on area key found)
+alone_outputs S on area key found status within = elim (cases_Bool (list_all (is_key_of S key) (known_of found))) [
+  | inl right ↦ rw (right, switch_outputs) (done_out S _ (made.SwitchOutput on area key) (with_error_keys found area) (switch_status found) status (no_switch_refusal on area key found)
+      (long_keys found (range_with_len 0 (length found)) area within))
+  | inr wrong ↦ rw (wrong, switch_outputs) (refused_out S (made.SwitchOutput on area key) area S40 status (λ s. refl) within)
+]
+
+alone_switch_output : (S : State) (on : Bool) (area key : List ℕ) (status : Status) → 8 ≤ length area → Alone S (made.SwitchOutput on area key) status (switch_output S on area key)
+alone_switch_output S on area key status within = elim (option_cases (destination_count area)) [
+  | inl none ↦ rw (none, switch_output) (refused_out S (made.SwitchOutput on area key) area S30 status (λ s. refl) within)
+  | inr some ↦ rw (some.1, switch_output) (alone_outputs S on area key (destinations S.net area some.0) status within)
+]
+
+-- SEND
+no_send_refusal : (S : State) (area : List ℕ) (part : Part) (item : Option (List ℕ)) (found : List (Option ℕ)) → is_refusal (made.Send area part item) (send_status S found) ≡ false
+no_send_refusal S area part item found = elim (cases_Bool (list_any is_unknown found)) [
+  | inl some ↦ rw (some, send_status) refl
+  | inr none ↦ elim (cases_Bool (list_any (λ terminal. not (is_on S.output_on terminal)) (known_of found))) [
+    | inl off ↦ rw (none, off, send_status) refl
+    | inr on ↦ rw (none, on, send_status) refl
+  ]
+]
+
+alone_text : (S : State) (unit : ℕ) (area : List ℕ) (part : Part) (item text : Option (List ℕ)) (count : ℕ) (status : Status) → 8 ≤ length area
+    → Alone S (made.Send area part item) status (send_text S unit area part text count)
+alone_text S unit area part item None count status within = refused_out S (made.Send area part item) area S50 status (λ s. refl) within
+alone_text S unit area part item (Some text) count status within = elim (cases_Bool (is_nothing part text)) [
+  | inl nothing ↦ rw (nothing, send_text) (refused_out S (made.Send area part item) area S60 status (λ s. refl) within)
+  | inr something ↦
+      let found = destinations S.net area count in
+      rw (something, send_text) (done_out S _ (made.Send area part item) (with_error_keys found area) (send_status S found) status (no_send_refusal S area part item found)
+      (long_keys found (range_with_len 0 (length found)) area within))
+]
+
+alone_send : (S : State) (unit : ℕ) (area : List ℕ) (part : Part) (item : Option (List ℕ)) (status : Status) → 8 ≤ length area → Alone S (made.Send area part item) status (send S unit area part item)
+alone_send S unit area part item status within = elim (option_cases (destination_count area)) [
+  | inl none ↦ rw (none, send) (refused_out S (made.Send area part item) area S30 status (λ s. refl) within)
+  | inr some ↦ rw (some.1, send) (alone_text S unit area part item (sent_text area item) some.0 status within)
+]
+
+-- RECEIVE
+alone_next : (S : State) (unit : ℕ) (area : List ℕ) (kind : Kind) (size : ℕ) (no_data : Bool) (found : Option Next) (status : Status)
+    → Alone S (made.Receive area kind size no_data) status (receive_next S unit area kind size found)
+alone_next S unit area kind size no_data None status refusal tells = absurd tells
+alone_next S unit area kind size no_data (Some next) status refusal tells = absurd tells
+
+alone_receive : (S : State) (unit : ℕ) (area : List ℕ) (kind : Kind) (size : ℕ) (no_data : Bool) (status : Status) → 79 ≤ length area
+    → Alone S (made.Receive area kind size no_data) status (receive S unit area kind size)
+alone_receive S unit area kind size no_data status within = elim (option_cases (designated S.net area)) [
+  | inl none ↦ rw (none, receive) (λ refusal tells.
+      let same = told_in area S20 status within tells in
+      (ap (λ s. Some (Refused (with_status s area))) (sym same), refl))
+  | inr some ↦ rw (some.1, receive) (alone_next S unit area kind size no_data (next_rest S unit some.0) status)
+]
+
+-- a verb more changes what is known of the units alone
+only_units : (unit : ℕ) (S : State) → with_verb unit S ≡ record S { units = (with_verb unit S).units }
+only_units unit S = elim (option_cases (slice_get S.units unit)) [
+  | inl none ↦ rw (none, with_verb) refl
+  | inr some ↦ rw (some.1, with_verb) refl
+]
+
+after_verb : (S : State) (unit : ℕ) (call : Call) (status : Status) (done : Reply × State) (reply : Reply) (next : State) → IsTrue (is_refusal call status)
+    → with_reply unit done ≡ (reply, next) → Tells reply status → Alone S call status done → ChangesStatusAlone S call status reply next
+after_verb S unit call status done reply next refusal e tells alone =
+    let told : Tells done.0 status = subst (λ (p : Reply × State). Tells p.0 status) (sym e) tells in
+    let held = alone refusal told in
+    let here : ChangesStatusAlone S call status done.0 (with_verb unit done.1) =
+    record { area = held.0; state = rw held.1 (only_units unit S) } in
+    subst (λ (p : Reply × State). ChangesStatusAlone S call status p.0 p.1) e here
+
+by_verb : (S : State) (unit : ℕ) (call : Call) (status : Status) (done : Reply × State) (reply : Reply) (next : State) → IsTrue (is_refusal call status)
+    → verb S unit done ≡ Some (reply, next) → Tells reply status → Alone S call status done → ChangesStatusAlone S call status reply next
+by_verb S unit call status done reply next refusal h tells alone =
+    after_verb S unit call status done reply next refusal (next_if-Some (is_running (unit_mode S unit) && may_do_verb S unit) (with_reply unit done) (reply, next) h) tells alone
+
+by_running : (S : State) (unit : ℕ) (area : List ℕ) (kind : Kind) (size : ℕ) (no_data : Bool) (status : Status) (reply : Reply) (next : State) → 79 ≤ length area
+    → IsTrue (is_refusal (made.Receive area kind size no_data) status) → receive_running S unit area kind size no_data ≡ (reply, next) → Tells reply status
+    → ChangesStatusAlone S (made.Receive area kind size no_data) status reply next
+by_running S unit area kind size no_data status reply next within refusal h tells = elim (cases_Bool ((no_data || is_none (designated S.net area)) || is_ready S unit area)) [
+  | inl now ↦ after_verb S unit (made.Receive area kind size no_data) status (receive S unit area kind size) reply next refusal (rw (now, receive_running) at h) tells (alone_receive S unit area kind size no_data status within)
+  | inr later ↦
+      let waits = rw (later, receive_running) at h in
+      absurd (subst (λ (p : Reply × State). Tells p.0 status) (sym waits) tells)
+]
+
+by_receive : (S : State) (unit : ℕ) (area : List ℕ) (kind : Kind) (size : ℕ) (no_data : Bool) (status : Status) (reply : Reply) (next : State) → 79 ≤ length area
+    → IsTrue (is_refusal (made.Receive area kind size no_data) status) → step_receive S unit area kind size no_data ≡ Some (reply, next) → Tells reply status
+    → ChangesStatusAlone S (made.Receive area kind size no_data) status reply next
+by_receive S unit area kind size no_data status reply next within refusal h tells = elim (cases_Bool (is_running (unit_mode S unit))) [
+  | inl runs ↦ by_running S unit area kind size no_data status reply next within refusal (same_Some _ _ (rw (runs, step_receive) at h)) tells
   | inr waits ↦
       let resumed = rw (waits, step_receive) at h in
-      alone_done area (with_reply unit (receive S unit area kind size)) reply next
-      (next_if-Some (is_waiting_for (unit_mode S unit) area kind size no_data && is_ready S unit area) _ _ resumed) (alone_receive S unit area kind size)
+      after_verb S unit (made.Receive area kind size no_data) status (receive S unit area kind size) reply next refusal
+      (next_if-Some (is_waiting_for (unit_mode S unit) area kind size no_data && is_ready S unit area) _ _ resumed) tells (alone_receive S unit area kind size no_data status within)
 ]
 
--- a RECEIVE that is refused changes the status key alone
-pub status_alone : (S next : State) (name area after : List ℕ) (kind : Kind) (size : ℕ) (no_data : Bool)
-    → step S (party.Unit name) (made.Receive area kind size no_data) ≡ Some (Refused after, next) → after ≡ set_in field.Status area (codes "20")
-status_alone S next name area after kind size no_data h = elim (option_cases (unit_number S.net name)) [
-  | inl none ↦ absurd (none-some (Refused after, next) (rw (none, step) at h))
-  | inr some ↦
-      let here = rw (some.1, step) at h in
-      elim (cases_Bool (may_do_verb S some.0)) [
-        | inl may ↦ alone_step S some.0 area kind size no_data (Refused after) next (rw (may, unit_step) at here)
-        | inr done ↦ absurd (none-some (Refused after, next) (rw (done, unit_step) at here))
-      ]
+by_unit : (S : State) (unit : ℕ) (call : Call) (status : Status) (reply : Reply) (next : State) → IsWellFormed call → IsTrue (is_refusal call status) → unit_step S unit call ≡ Some (reply, next)
+    → Tells reply status → ChangesStatusAlone S call status reply next
+by_unit S unit (made.Receive area kind size no_data) status reply next formed refusal h tells = elim (cases_Bool (may_do_verb S unit)) [
+  | inl may ↦ by_receive S unit area kind size no_data status reply next (omega (arith, formed.0.length)) refusal (rw (may, unit_step) at h) tells
+  | inr done ↦ absurd (none-some (reply, next) (rw (done, unit_step) at h))
+]
+by_unit S unit (made.Count area) status reply next formed refusal h tells =
+    by_verb S unit (made.Count area) status (AreaIn (counted_area S area), S) reply next refusal h tells (alone_count S area status formed.length)
+by_unit S unit (made.Send area part item) status reply next formed refusal h tells =
+    by_verb S unit (made.Send area part item) status (send S unit area part item) reply next refusal h tells (alone_send S unit area part item status (omega (arith, formed.0.whole)))
+by_unit S unit (made.SwitchInput on terminal area key) status reply next formed refusal h tells =
+    by_verb S unit (made.SwitchInput on terminal area key) status (switch_input S on terminal area key) reply next refusal h tells (alone_switch_input S on terminal area key status formed.0.length)
+by_unit S unit (made.SwitchOutput on area key) status reply next formed refusal h tells =
+    by_verb S unit (made.SwitchOutput on area key) status (switch_output S on area key) reply next refusal h tells (alone_switch_output S on area key status (omega (arith, formed.0.whole)))
+by_unit S unit made.Start status reply next formed refusal h tells = absurd (false≢true refusal)
+by_unit S unit (made.Stop reason) status reply next formed refusal h tells = absurd (false≢true refusal)
+by_unit S unit (made.Arrive stamp message) status reply next formed refusal h tells = absurd (false≢true refusal)
+by_unit S unit made.Held status reply next formed refusal h tells = absurd (false≢true refusal)
+by_unit S unit (made.Finish reason) status reply next formed refusal h tells = absurd (false≢true refusal)
+
+-- no terminal is refused
+no_terminal : (S : State) (terminal : ℕ) (name : List ℕ) (call : Call) (status : Status) (reply : Reply) (next : State) → IsTrue (is_refusal call status)
+    → terminal_step S terminal name call ≡ Some (reply, next) → ⊥
+no_terminal S terminal name (made.Receive area kind size no_data) status reply next refusal h = none-some (reply, next) h
+no_terminal S terminal name (made.Count area) status reply next refusal h = none-some (reply, next) h
+no_terminal S terminal name (made.Send area part item) status reply next refusal h = none-some (reply, next) h
+no_terminal S terminal name (made.SwitchInput on is_terminal area key) status reply next refusal h = none-some (reply, next) h
+no_terminal S terminal name (made.SwitchOutput on area key) status reply next refusal h = none-some (reply, next) h
+no_terminal S terminal name made.Start status reply next refusal h = absurd (false≢true refusal)
+no_terminal S terminal name (made.Stop reason) status reply next refusal h = absurd (false≢true refusal)
+no_terminal S terminal name (made.Arrive stamp message) status reply next refusal h = absurd (false≢true refusal)
+no_terminal S terminal name made.Held status reply next refusal h = absurd (false≢true refusal)
+no_terminal S terminal name (made.Finish reason) status reply next refusal h = absurd (false≢true refusal)
+
+-- a refused call changes the status key alone
+pub status_alone : (S next : State) (who : Party) (call : Call) (reply : Reply) (status : Status) → IsWellFormed call → IsTrue (is_refusal call status)
+    → step S who call ≡ Some (reply, next) → Tells reply status → ChangesStatusAlone S call status reply next
+status_alone S next (party.Unit name) call reply status formed refusal h tells = elim (option_cases (unit_number S.net name)) [
+  | inl none ↦ absurd (none-some (reply, next) (rw (none, step) at h))
+  | inr some ↦ by_unit S some.0 call status reply next formed refusal (rw (some.1, step) at h) tells
+]
+status_alone S next (party.Terminal name) call reply status formed refusal h tells = elim (option_cases (terminal_number S.net name)) [
+  | inl none ↦ absurd (none-some (reply, next) (rw (none, step) at h))
+  | inr some ↦ absurd (no_terminal S some.0 name call status reply next refusal (rw (some.1, step) at h))
 ]

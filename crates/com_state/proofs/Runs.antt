@@ -7,8 +7,8 @@ use Rattle.com_events.specs.declared.reply.Reply.{Reply}
 use Rattle.com_events.specs.declared.entry.Entry.{Entry}
 use Rattle.com_state.specs.State.{State, opening}
 use Rattle.com_state.specs.Steps.{step}
-use Rattle.com_state.specs.Histories.{LeadsTo, Legal, run, run_from, entry_before}
-use Rattle.com_state.specs.Rows.{made, Shows}
+use Rattle.com_state.specs.Histories.{LeadsTo, Legal, IsRun, run, run_from, entry_before, call_made}
+use Rattle.com_state.specs.Transcripts.{sent_by}
 
 -- what is mapped to something is something
 option_map_some : {A B P : Type 0} (f : A → B) (o : Option A) (y : B) → option_map f o ≡ Some y → ((x : A) → o ≡ Some x → f x ≡ y → P) → P
@@ -22,28 +22,32 @@ first_reply reply (entry ∷ entries) = entry.reply
 abbrev behind : List Entry × State → List Entry × State
 behind r = (drop 1 r.0, r.1)
 
-pub leads_of_run : (S : State) (history : List Entry) (last : State) → run_from S (map made history) ≡ Some (history, last) → LeadsTo S history last
+pub leads_of_run : (S : State) (history : List Entry) (last : State) → run_from S (map call_made history) ≡ Some (history, last) → LeadsTo S history last
 leads_of_run S [] last e = ap (λ r. r.1) (sym (same_Some _ _ e))
 leads_of_run S (entry ∷ entries) last e =
-    option_and_then_some (λ next. option_map (entry_before (made entry) next.0) (run_from next.1 (map made entries))) (step S entry.party entry.call) (entry ∷ entries, last) e
+    option_and_then_some (λ next. option_map (entry_before (call_made entry) next.0) (run_from next.1 (map call_made entries))) (step S entry.party entry.call) (entry ∷ entries, last) e
     (λ next stepped mapped.
-    option_map_some (entry_before (made entry) next.0) (run_from next.1 (map made entries)) (entry ∷ entries, last) mapped
+    option_map_some (entry_before (call_made entry) next.0) (run_from next.1 (map call_made entries)) (entry ∷ entries, last) mapped
     (λ r ran same. (
       next.1,
       stepped ∙ ap (λ reply. Some (reply, next.1)) (ap (λ q. first_reply entry.reply q.0) same),
       leads_of_run next.1 entries last (ran ∙ ap (λ q. Some (behind q)) same),
     )))
 
-pub run_of_leads : (S : State) (history : List Entry) (last : State) → LeadsTo S history last → run_from S (map made history) ≡ Some (history, last)
+pub run_of_leads : (S : State) (history : List Entry) (last : State) → LeadsTo S history last → run_from S (map call_made history) ≡ Some (history, last)
 run_of_leads S [] last e = ap (λ s. Some ([], s)) (sym e)
 run_of_leads S (entry ∷ entries) last e =
-    ap (option_and_then (λ next. option_map (entry_before (made entry) next.0) (run_from next.1 (map made entries)))) e.1
-    ∙ ap (option_map (entry_before (made entry) entry.reply)) (run_of_leads e.0 entries last e.2)
+    ap (option_and_then (λ next. option_map (entry_before (call_made entry) next.0) (run_from next.1 (map call_made entries)))) e.1
+    ∙ ap (option_map (entry_before (call_made entry) entry.reply)) (run_of_leads e.0 entries last e.2)
 
-pub legal_of_shown : (net : Net) (history : List Entry) → Shows net history → Legal net history
+pub legal_of_shown : (net : Net) (history : List Entry) → IsRun net history → Legal net history
 legal_of_shown net history e =
-    option_map_some (λ r. r.0) (run net (map made history)) history e
+    option_map_some (λ r. r.0) (run net (map call_made history)) history e
     (λ r ran same. (r.1, leads_of_run (opening net) history r.1 (ran ∙ ap (λ h. Some (h, r.1)) same)))
 
-pub shown_of_legal : (net : Net) (history : List Entry) → Legal net history → Shows net history
+pub shown_of_legal : (net : Net) (history : List Entry) → Legal net history → IsRun net history
 shown_of_legal net history e = ap (option_map (λ r. r.0)) (run_of_leads (opening net) history e.0 e.1)
+
+-- what a history transmits is what has been transmitted in the state that it leads to
+pub sent_of_leads : (net : Net) (history : List Entry) (last : State) → LeadsTo (opening net) history last → sent_by net history ≡ last.sent
+sent_of_leads net history last h = rw (run_of_leads (opening net) history last h, sent_by) refl

@@ -1,5 +1,5 @@
 -- SEND: text that a unit sends, and messages on their way to terminals.
-use Rattle.std.specs.Prelude.{ℕ, ◌+◌, Bool, true, false, not, ◌&&◌, ◌==◌, nat_le, List, [], ◌∷◌, ◌++◌, length, map, take, Option, Some, None, unwrap_or, slice_get, if◌then◌else◌, codes}
+use Rattle.std.specs.Prelude.{ℕ, Bool, true, false, not, ◌&&◌, ◌==◌, nat_le, List, [], ◌∷◌, ◌++◌, length, map, take, Option, Some, None, unwrap_or, slice_get, if◌then◌else◌, codes}
 use Rattle.std.specs.List.{filter, find, position, range_with_len, list_any, fold}
 use Rattle.std.specs.Str.{bytes_eq, all_ascii_digits}
 use Rattle.com_text.specs.Name.{field_of}
@@ -36,6 +36,7 @@ known_of (None ∷ found) = known_of found
 known_of (Some terminal ∷ found) =
     terminal ∷ filter (λ other. not (other == terminal)) (known_of found)
 
+-- the destination is no terminal
 abbrev pub is_unknown : Option ℕ → Bool
 is_unknown None = true
 is_unknown (Some terminal) = false
@@ -45,14 +46,20 @@ abbrev pub error_key : Option ℕ → List ℕ
 error_key None = codes "1"
 error_key (Some terminal) = codes "0"
 
-abbrev pub with_error_keys : ℕ → List (Option ℕ) → List ℕ → List ℕ
-with_error_keys at [] area = area
-with_error_keys at (found ∷ others) area =
-    with_error_keys (at + 1) others (set_out (field.Error at) area (error_key found))
+-- the destination at an occurrence is given its error key
+abbrev pub with_error_key : List (Option ℕ) → List ℕ → ℕ → List ℕ
+with_error_key found area at =
+    set_out (field.Error at) area (error_key (unwrap_or (slice_get found at) None))
 
+-- each occurrence that was looked at has its error key
+abbrev pub with_error_keys : List (Option ℕ) → List ℕ → List ℕ
+with_error_keys found area = fold (with_error_key found) area (range_with_len 0 (length found))
+
+-- the area with this status key
 abbrev pub with_out_status : Status → List ℕ → List ℕ
 with_out_status status area = set_out field.Status area (status_bytes status)
 
+-- the flag at a place
 abbrev pub is_on : List Bool → ℕ → Bool
 is_on flags at = unwrap_or (slice_get flags at) false
 
@@ -60,17 +67,21 @@ is_on flags at = unwrap_or (slice_get flags at) false
 abbrev pub is_begun_for : ℕ → ℕ → Begun → Bool
 is_begun_for unit destination b = b.unit == unit && b.destination == destination
 
+-- what a unit has begun for a destination; nothing where no such pair is kept
 abbrev pub begun_for : State → ℕ → ℕ → Begun
 begun_for S unit destination =
     unwrap_or (find (is_begun_for unit destination) S.begun)
     (record { unit = unit; destination = destination; segments = []; text = [] })
 
+-- all that is begun but for this unit and destination
 abbrev pub others_begun : Begun → List Begun → List Begun
 others_begun b begun = filter (λ other. not (is_begun_for b.unit b.destination other)) begun
 
+-- what is begun is kept in the place of what was
 abbrev pub with_begun : State → Begun → State
 with_begun S b = record S { begun = b ∷ others_begun b S.begun }
 
+-- characters behind the text so far
 abbrev pub add_text : List ℕ → Begun → Begun
 add_text text b = record b { text = b.text ++ text }
 
@@ -81,6 +92,7 @@ end_segment advance b = record b {
   text = [];
 }
 
+-- the whole segments are a message for the destination
 abbrev pub finished : Begun → End → Finished
 finished b end = record {
   destination = b.destination;
@@ -93,6 +105,7 @@ deliver S message =
     if is_on S.output_on message.destination then record S { sent = S.sent ++ message ∷ [] }
     else record S { queued = S.queued ++ message ∷ [] }
 
+-- the message goes, and nothing is begun for its destination
 abbrev pub finish : State → Begun → End → State
 finish S b end = deliver (record S { begun = others_begun b S.begun }) (finished b end)
 
@@ -103,6 +116,7 @@ serve_part S (Esi advance) b = with_begun S (end_segment advance b)
 serve_part S (Emi advance) b = finish S (end_segment advance b) with_emi
 serve_part S (Egi advance) b = finish S (end_segment advance b) with_egi
 
+-- one destination of a SEND: the text is added, and the part ends what it ends
 abbrev pub serve : ℕ → Part → List ℕ → State → ℕ → State
 serve unit part text S destination =
     serve_part S part (add_text text (begun_for S unit destination))
@@ -124,6 +138,7 @@ is_nothing (Esi advance) text = false
 is_nothing (Emi advance) text = false
 is_nothing (Egi advance) text = false
 
+-- 20 where a destination is unknown, else 10 where a known one is not enabled, else 00
 abbrev pub send_status : State → List (Option ℕ) → Status
 send_status S found =
     if list_any is_unknown found then S20
@@ -133,10 +148,11 @@ send_status S found =
 -- each known destination is served
 abbrev pub send_to : State → ℕ → List ℕ → Part → List ℕ → List (Option ℕ) → Reply × State
 send_to S unit area part text found = (
-  AreaOut (with_out_status (send_status S found) (with_error_keys 0 found area)),
+  AreaOut (with_out_status (send_status S found) (with_error_keys found area)),
   fold (serve unit part text) S (known_of found),
 )
 
+-- a SEND whose DESTINATION COUNT is valid
 abbrev pub send_text : State → ℕ → List ℕ → Part → Option (List ℕ) → ℕ → Reply × State
 send_text S unit area part None count = (AreaOut (with_out_status S50 area), S)
 send_text S unit area part (Some text) count =

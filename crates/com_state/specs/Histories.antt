@@ -36,6 +36,7 @@ run_from S (made ∷ calls) =
 abbrev pub run : Net → List (Party × Call) → Option (List Entry × State)
 run net calls = run_from (opening net) calls
 
+-- the call of an entry, and who made it
 abbrev pub call_made : Entry → Party × Call
 call_made entry = (entry.party, entry.call)
 

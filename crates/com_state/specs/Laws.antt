@@ -1,11 +1,21 @@
 -- What a step leaves as it was, for the laws on all states.
-use Rattle.std.specs.Prelude.{◌≡◌, ℕ, ◌≤◌, ◌⊎◌, Bool, true, false, ◌==◌, List, length}
+use Rattle.std.specs.Prelude.{◌≡◌, ℕ, ◌≤◌, ◌⊎◌, Bool, true, false, ◌==◌, List, length, Option, Some, None}
 use Rattle.std.specs.List.{filter}
 use Rattle.com_events.specs.declared.call.Call.{Call}
-use Rattle.com_events.specs.declared.call.Call.TheVariants.{Arrive, SwitchOutput}
+use Rattle.com_events.specs.declared.call.Call.TheVariants.{Receive, Count, Send, SwitchInput, SwitchOutput, Arrive}
+use Rattle.com_events.specs.declared.reply.Reply.{Reply}
+use Rattle.com_events.specs.declared.reply.Reply.TheVariants.{Refused, AreaIn, AreaOut}
+use Rattle.com_cd.specs.InputArea.{in_field, set_in}
+use Rattle.com_cd.specs.OutputArea.{out_field, set_out}
+use Rattle.com_cd.specs.Status.{status_bytes}
+use Rattle.com_cd.specs.declared.status.Status.{Status}
+use Rattle.com_cd.specs.declared.status.Status.TheVariants.{S20, S30, S40, S50, S60}
+use Rattle.com_cd.specs.declared.input_area.InField.TheVariants as field
+use Rattle.com_cd.specs.declared.output_area.OutField.TheVariants as out
 use Rattle.com_state.specs.State.{State, Held, Begun, Finished}
 use Rattle.com_state.specs.Wholeness.{IsPrefixOf}
 
+-- ARRIVE
 abbrev pub is_arrival : Call → Bool
 is_arrival (Arrive stamp message) = true
 is_arrival _ = false
@@ -34,3 +44,45 @@ pub record Keeps (S : State) (call : Call) (next : State) : Type 0 where
   pub waiting : (is_arrival call ≡ true) ⊎ (length next.waiting ≤ length S.waiting)
   pub queued : (enables_output call ≡ true)
       ⊎ ((terminal : ℕ) → IsPrefixOf (queue_for S terminal) (queue_for next terminal))
+
+-- the status keys that tell that a call was not done
+abbrev pub is_refusal : Call → Status → Bool
+is_refusal (Receive area kind size no_data) S20 = true
+is_refusal (Count area) S20 = true
+is_refusal (Send area part item) S30 = true
+is_refusal (Send area part item) S50 = true
+is_refusal (Send area part item) S60 = true
+is_refusal (SwitchInput on terminal area key) S20 = true
+is_refusal (SwitchInput on terminal area key) S40 = true
+is_refusal (SwitchOutput on area key) S30 = true
+is_refusal (SwitchOutput on area key) S40 = true
+is_refusal _ _ = false
+
+-- the reply's area tells this status key; what gives a portion, or says that there is none, is no
+-- refusal
+abbrev pub Tells : Reply → Status → Type 0
+Tells (Refused after) status = in_field field.Status after ≡ status_bytes status
+Tells (AreaIn after) status = in_field field.Status after ≡ status_bytes status
+Tells (AreaOut after) status = out_field out.Status after ≡ status_bytes status
+Tells _ status = ⊥
+
+-- the call's own area with this status key in it, and all else as it was
+abbrev pub with_status_alone : Call → Status → Option Reply
+with_status_alone (Receive area kind size no_data) status =
+    Some (Refused (set_in field.Status area (status_bytes status)))
+with_status_alone (Count area) status =
+    Some (AreaIn (set_in field.Status area (status_bytes status)))
+with_status_alone (Send area part item) status =
+    Some (AreaOut (set_out out.Status area (status_bytes status)))
+with_status_alone (SwitchInput on terminal area key) status =
+    Some (AreaIn (set_in field.Status area (status_bytes status)))
+with_status_alone (SwitchOutput on area key) status =
+    Some (AreaOut (set_out out.Status area (status_bytes status)))
+with_status_alone _ status = None
+
+-- What a refusal changes: of the area the status key alone, and of the system only the number of
+-- verbs of the unit.
+pub record ChangesStatusAlone (S : State) (call : Call) (status : Status) (reply : Reply)
+    (next : State) : Type 0 where
+  pub area : with_status_alone call status ≡ Some reply
+  pub state : next ≡ record S { units = next.units }

@@ -10,3 +10,4 @@ pub mod Laws
 pub mod Rows
 pub mod FurtherRows
 pub mod OutputRows
+pub mod WholenessRows

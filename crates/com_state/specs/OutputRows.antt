@@ -1,20 +1,19 @@
 -- Worked histories of what terminals are sent, to the byte.
-use Rattle.std.specs.Prelude.{◌≡◌, ℕ, Bool, true, List, [], ◌∷◌, ◌++◌, Option, Some, None, option_map, codes}
+use Rattle.std.specs.Prelude.{◌≡◌, ℕ, Bool, true, List, [], ◌∷◌, Option, Some, None, option_map, codes}
 use Rattle.com_msg.specs.declared.sending.Advance.TheVariants as advance
 use Rattle.com_msg.specs.declared.sending.Part.TheVariants as part
 use Rattle.com_net.specs.declared.net.Net.{Net}
 use Rattle.com_events.specs.declared.call.Call.TheVariants as call
 use Rattle.com_events.specs.declared.reply.Reply.TheVariants as reply
 use Rattle.com_events.specs.declared.entry.Entry.{Entry}
-use Rattle.com_state.specs.State.{State, Begun}
+use Rattle.com_state.specs.State.{Begun}
 use Rattle.com_state.specs.Histories.{state_after}
-use Rattle.com_state.specs.Transcripts.{transcript}
+use Rattle.com_state.specs.Transcripts.{transcript_of}
 use Rattle.com_state.specs.Rows.{by_unit, starts, sends}
 
 -- what was transmitted to a terminal after these calls
 abbrev pub Prints : Net → List Entry → ℕ → List ℕ → Type 0
-Prints net history terminal bytes =
-    option_map (λ S. transcript S terminal) (state_after net history) ≡ Some bytes
+Prints net history terminal bytes = transcript_of net history terminal ≡ bytes
 
 -- whether each terminal's output is enabled after these calls
 abbrev pub output_flags : Net → List Entry → Option (List Bool)

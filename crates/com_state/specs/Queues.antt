@@ -60,9 +60,11 @@ without_first leaf (w ∷ waiting) =
 abbrev pub is_held_on : ℕ → ℕ → Held → Bool
 is_held_on unit leaf h = h.unit == unit && h.leaf == leaf
 
+-- the rest that the unit holds from a leaf
 abbrev pub held_on : List Held → ℕ → ℕ → Option Held
 held_on held unit leaf = find (is_held_on unit leaf) held
 
+-- all that is held but what the unit holds from a leaf
 abbrev pub without_held : ℕ → ℕ → List Held → List Held
 without_held unit leaf held = filter (λ h. not (is_held_on unit leaf h)) held
 
@@ -78,6 +80,7 @@ pub record Next : Type 0 where
   pub rest : Message
   pub waiting : List Waiting
 
+-- a rest that is held is gone on with, and what waits stays
 abbrev pub next_of_held : State → Option Held → Option Next
 next_of_held S None = None
 next_of_held S (Some h) = Some (record { leaf = h.leaf; rest = h.rest; waiting = S.waiting })
@@ -103,6 +106,7 @@ abbrev pub is_ready : State → ℕ → List ℕ → Bool
 is_ready S unit area =
     is_some (option_and_then (next_rest S unit) (designated S.net area))
 
+-- the area with this status key
 abbrev pub with_status : Status → List ℕ → List ℕ
 with_status status area = set_in field.Status area (status_bytes status)
 
@@ -110,12 +114,14 @@ with_status status area = set_in field.Status area (status_bytes status)
 abbrev pub leaf_fields : Net → ℕ → List ℕ
 leaf_fields net leaf = path_fields (unwrap_or (slice_get (leaf_paths net.tree) leaf) [])
 
+-- the area with the date, the time and the source of a message
 abbrev pub with_origin : Message → List ℕ → List ℕ
 with_origin message area =
     let dated = set_in field.Date area message.stamp.date in
     let timed = set_in field.Time dated message.stamp.time in
     set_in field.Source timed (field_of message.source)
 
+-- the area with a length, an end key and the status key 00
 abbrev pub with_text : List ℕ → List ℕ → List ℕ → List ℕ
 with_text digits end_key area =
     let sized = set_in field.Length area digits in
@@ -149,6 +155,7 @@ give S unit area kind size next =
       },
     )
 
+-- what is gone on with is given, and else there is no data
 abbrev pub receive_next : State → ℕ → List ℕ → Kind → ℕ → Option Next → Reply × State
 receive_next S unit area kind size None = (NoData (no_data_area area), S)
 receive_next S unit area kind size (Some next) = give S unit area kind size next

@@ -27,15 +27,7 @@ use Rattle.com_events.specs.declared.reply.Reply.{Reply}
 use Rattle.com_events.specs.declared.reply.Reply.TheVariants as reply
 use Rattle.com_events.specs.declared.entry.Entry.{Entry}
 use Rattle.com_state.specs.State.{State, Begun, Finished, Held}
-use Rattle.com_state.specs.Histories.{run}
-
--- the call of an entry, and who made it
-abbrev pub made : Entry → Party × Call
-made entry = (entry.party, entry.call)
-
--- these calls get these replies
-abbrev pub Shows : Net → List Entry → Type 0
-Shows net history = option_map (λ r. r.0) (run net (map made history)) ≡ Some history
+use Rattle.com_state.specs.Histories.{run, call_made}
 
 -- what is transmitted and what is queued
 abbrev pub outgoing : List Entry × State → List Finished × List Finished
@@ -44,21 +36,21 @@ outgoing r = (r.1.sent, r.1.queued)
 -- these messages are transmitted and queued after these calls
 abbrev pub Delivers : Net → List Entry → List Finished → List Finished → Type 0
 Delivers net history sent queued =
-    option_map outgoing (run net (map made history)) ≡ Some (sent, queued)
+    option_map outgoing (run net (map call_made history)) ≡ Some (sent, queued)
 
 -- this is begun after these calls
 abbrev pub Begins : Net → List Entry → List Begun → Type 0
 Begins net history begun =
-    option_map (λ r. r.1.begun) (run net (map made history)) ≡ Some begun
+    option_map (λ r. r.1.begun) (run net (map call_made history)) ≡ Some begun
 
 -- the units hold this after these calls
 abbrev pub Holds : Net → List Entry → List Held → Type 0
-Holds net history held = option_map (λ r. r.1.held) (run net (map made history)) ≡ Some held
+Holds net history held = option_map (λ r. r.1.held) (run net (map call_made history)) ≡ Some held
 
 -- whether each leaf is enabled after these calls
 abbrev pub Enables : Net → List Entry → List Bool → Type 0
 Enables net history leaf_on =
-    option_map (λ r. r.1.leaf_on) (run net (map made history)) ≡ Some leaf_on
+    option_map (λ r. r.1.leaf_on) (run net (map call_made history)) ≡ Some leaf_on
 
 -- how many verbs each unit has done
 abbrev pub verbs_done : List Entry × State → List ℕ
@@ -66,7 +58,7 @@ verbs_done r = map (λ unit. unit.verbs) r.1.units
 
 -- the units have done so many verbs after these calls
 abbrev pub Counts : Net → List Entry → List ℕ → Type 0
-Counts net history verbs = option_map verbs_done (run net (map made history)) ≡ Some verbs
+Counts net history verbs = option_map verbs_done (run net (map call_made history)) ≡ Some verbs
 
 -- how many messages of each terminal have arrived
 abbrev pub arrivals_made : List Entry × State → List ℕ
@@ -75,11 +67,11 @@ arrivals_made r = map (λ terminal. terminal.arrivals) r.1.terminals
 -- so many messages of the terminals have arrived after these calls
 abbrev pub Takes : Net → List Entry → List ℕ → Type 0
 Takes net history arrivals =
-    option_map arrivals_made (run net (map made history)) ≡ Some arrivals
+    option_map arrivals_made (run net (map call_made history)) ≡ Some arrivals
 
 -- this call is not possible after these
 abbrev pub Excludes : Net → List Entry → Party → Call → Type 0
-Excludes net history who call = run net (map made history ++ (who, call) ∷ []) ≡ None
+Excludes net history who call = run net (map call_made history ++ (who, call) ∷ []) ≡ None
 
 abbrev pub by_unit : List ℕ → Call → Reply → Entry
 by_unit name call reply = record { party = party.Unit name; call = call; reply = reply }

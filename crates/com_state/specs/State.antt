@@ -36,6 +36,7 @@ pub data UnitMode : Type 0 where
   waiting_for : List ℕ → Kind → ℕ → UnitMode
   stopped : UnitMode
 
+-- a terminal feeds, holds a message that cannot come in, or has ended
 pub data TerminalMode : Type 0 where
   feeding : TerminalMode
   holding : TerminalMode
@@ -72,9 +73,11 @@ pub record State : Type 0 where
   pub units : List UnitState
   pub terminals : List TerminalState
 
+-- a unit that has not started
 abbrev pub opening_unit : UnitState
 opening_unit = record { mode = dormant; verbs = 0 }
 
+-- a terminal of which nothing has arrived
 abbrev pub opening_terminal : TerminalState
 opening_terminal = record { mode = feeding; arrivals = 0 }
 
@@ -95,8 +98,10 @@ opening net = record {
   terminals = replicate (length net.terminals) opening_terminal;
 }
 
+-- the mode of a unit, where there is such a unit
 abbrev pub unit_mode : State → ℕ → Option UnitMode
 unit_mode S unit = option_map (λ u. u.mode) (slice_get S.units unit)
 
+-- the mode of a terminal, where there is such a terminal
 abbrev pub terminal_mode : State → ℕ → Option TerminalMode
 terminal_mode S terminal = option_map (λ t. t.mode) (slice_get S.terminals terminal)

@@ -25,38 +25,46 @@ use Rattle.com_state.specs.Queues.{designated, chosen_leaf, leaf_fields, is_read
 use Rattle.com_state.specs.Destinations.{is_on, send}
 use Rattle.com_state.specs.Switches.{switch_input, switch_output}
 
+-- the number of the unit of this name
 abbrev pub unit_number : Net → List ℕ → Option ℕ
 unit_number net name = position (λ unit. bytes_eq unit.name name) net.units
 
+-- the number of the terminal of this name
 abbrev pub terminal_number : Net → List ℕ → Option ℕ
 terminal_number net name = position (λ terminal. bytes_eq terminal.name name) net.terminals
 
+-- this reply and state, where the test holds, and else undefined
 abbrev pub next_if : Bool → Reply × State → Option (Reply × State)
 next_if test next = if test then Some next else None
 
--- the modes of parties
+-- there is such a unit, and it has not started
 abbrev pub is_dormant : Option UnitMode → Bool
 is_dormant (Some dormant) = true
 is_dormant _ = false
 
+-- there is such a unit, and it runs
 abbrev pub is_running : Option UnitMode → Bool
 is_running (Some running) = true
 is_running _ = false
 
+-- there is such a terminal, and it feeds
 abbrev pub is_feeding : Option TerminalMode → Bool
 is_feeding (Some feeding) = true
 is_feeding _ = false
 
+-- there is such a terminal, and it holds a message
 abbrev pub is_holding : Option TerminalMode → Bool
 is_holding (Some holding) = true
 is_holding _ = false
 
+-- the unit is in this mode
 abbrev pub with_unit_mode : ℕ → UnitMode → State → State
 with_unit_mode unit mode S = elim (slice_get S.units unit) [
   | None ↦ S
   | Some u ↦ record S { units = slice_set S.units unit (record u { mode = mode }) }
 ]
 
+-- the terminal is in this mode
 abbrev pub with_terminal_mode : ℕ → TerminalMode → State → State
 with_terminal_mode terminal mode S = elim (slice_get S.terminals terminal) [
   | None ↦ S
@@ -128,6 +136,7 @@ receive_running S unit area kind size no_data =
     then with_reply unit (receive S unit area kind size)
     else (Waits, with_unit_mode unit (waiting_for area kind size) S)
 
+-- both are MESSAGE or both are SEGMENT
 abbrev pub same_kind : Kind → Kind → Bool
 same_kind message_kind message_kind = true
 same_kind segment_kind segment_kind = true
@@ -140,6 +149,7 @@ is_waiting_for (Some (waiting_for area kind size)) other_area other_kind other_s
     ((bytes_eq area other_area && same_kind kind other_kind) && size == other_size) && not no_data
 is_waiting_for _ area kind size no_data = false
 
+-- RECEIVE of a unit that runs, or that waits with this RECEIVE and can go on
 abbrev pub step_receive : State → ℕ → List ℕ → Kind → ℕ → Bool → Option (Reply × State)
 step_receive S unit area kind size no_data =
     if is_running (unit_mode S unit) then Some (receive_running S unit area kind size no_data)
@@ -184,12 +194,14 @@ waits_or_sleeps (Some dormant) = true
 waits_or_sleeps (Some (waiting_for area kind size)) = true
 waits_or_sleeps _ = false
 
+-- STOP IDLE needs an idle system, and the other reasons a unit that runs
 abbrev pub may_stop : State → ℕ → StopReason → Bool
 may_stop S unit stop.Run = is_running (unit_mode S unit)
 may_stop S unit stop.Limit = is_running (unit_mode S unit)
 may_stop S unit stop.DataFault = is_running (unit_mode S unit)
 may_stop S unit stop.Idle = is_idle S && waits_or_sleeps (unit_mode S unit)
 
+-- END IDLE needs an idle system and a terminal that holds, and the other reasons one that feeds
 abbrev pub may_finish : State → ℕ → EndReason → Bool
 may_finish S terminal finish.End = is_feeding (terminal_mode S terminal)
 may_finish S terminal (finish.Frame fault) = is_feeding (terminal_mode S terminal)
@@ -207,6 +219,7 @@ arrived_message S terminal stamp message name = record {
   end = message.end;
 }
 
+-- ARRIVE: the message waits behind all others, and the terminal feeds
 abbrev pub arrive : State → ℕ → List ℕ → Moment → RawMessage → Feed → Reply × State
 arrive S terminal name stamp message feed =
     let here : Waiting = record {
@@ -218,6 +231,7 @@ arrive S terminal name stamp message feed =
           (record S { waiting = S.waiting ++ here ∷ []; arrivals = S.arrivals + 1 }),
     )
 
+-- there is such a terminal, and it has not ended
 abbrev pub is_feeding_or_holding : Option TerminalMode → Bool
 is_feeding_or_holding mode = is_feeding mode || is_holding mode
 

@@ -15,6 +15,7 @@ use Rattle.com_state.specs.State.{State, Finished}
 use Rattle.com_state.specs.Queues.{designated, with_status}
 use Rattle.com_state.specs.Destinations.{terminal_with, destinations, known_of, is_unknown, with_error_keys, with_out_status}
 
+-- there is no character but spaces
 abbrev pub spaces_only : List ℕ → Bool
 spaces_only text = list_all (λ byte. byte == 32) text
 
@@ -52,6 +53,7 @@ switch_terminal S on area key terminal =
     then (AreaIn (with_status S00 area), record S { input_on = slice_set S.input_on terminal on })
     else (AreaIn (with_status S40 area), S)
 
+-- ENABLE and DISABLE INPUT, without TERMINAL and with it
 abbrev pub switch_input : State → Bool → Bool → List ℕ → List ℕ → Reply × State
 switch_input S on false area key = elim (designated S.net area) [
   | None ↦ (AreaIn (with_status S20 area), S)
@@ -62,6 +64,7 @@ switch_input S on true area key = elim (terminal_with S.net (in_field field.Sour
   | Some terminal ↦ switch_terminal S on area key terminal
 ]
 
+-- the message is for this destination
 abbrev pub is_for : ℕ → Finished → Bool
 is_for destination message = message.destination == destination
 
@@ -72,14 +75,17 @@ transmit S destination = record S {
   queued = filter (λ message. not (is_for destination message)) S.queued;
 }
 
+-- one destination is enabled or disabled, and where it is enabled, what is queued for it goes
 abbrev pub switch_destination : Bool → State → ℕ → State
 switch_destination on S destination =
     let switched = record S { output_on = slice_set S.output_on destination on } in
     if on then transmit switched destination else switched
 
+-- 20 where a destination is unknown, else 00
 abbrev pub switch_status : List (Option ℕ) → Status
 switch_status found = if list_any is_unknown found then S20 else S00
 
+-- the key is the password of this terminal
 abbrev pub is_key_of : State → List ℕ → ℕ → Bool
 is_key_of S key terminal =
     is_key key (option_map (λ t. t.password) (slice_get S.net.terminals terminal))
@@ -89,11 +95,12 @@ abbrev pub switch_outputs : State → Bool → List ℕ → List ℕ → List (O
 switch_outputs S on area key found =
     if list_all (is_key_of S key) (known_of found)
     then (
-      AreaOut (with_out_status (switch_status found) (with_error_keys 0 found area)),
+      AreaOut (with_out_status (switch_status found) (with_error_keys found area)),
       fold (switch_destination on) S (known_of found),
     )
     else (AreaOut (with_out_status S40 area), S)
 
+-- ENABLE and DISABLE OUTPUT
 abbrev pub switch_output : State → Bool → List ℕ → List ℕ → Reply × State
 switch_output S on area key = elim (destination_count area) [
   | None ↦ (AreaOut (with_out_status S30 area), S)

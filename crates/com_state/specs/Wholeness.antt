@@ -1,6 +1,6 @@
 -- What holds of every legal history: messages are handed out whole, to one unit each, and in order.
-use Rattle.std.specs.Prelude.{◌≡◌, ℕ, ◌+◌, ◌⊎◌, Bool, true, false, not, ◌&&◌, ◌||◌, ◌==◌, nat_le, if◌then◌else◌, List, [], ◌∷◌, ◌++◌, length, map, Option, Some, None, option_map, option_and_then, slice_get, IsTrue, codes}
-use Rattle.std.specs.List.{concat, filter, filter_map, list_all, list_any, cons_option}
+use Rattle.std.specs.Prelude.{◌≡◌, ℕ, ◌+◌, ◌-◌, ◌⊎◌, Bool, true, false, not, ◌&&◌, ◌||◌, ◌==◌, nat_le, List, [], ◌∷◌, ◌++◌, length, map, Option, Some, None, option_map, option_and_then, slice_get, IsTrue}
+use Rattle.std.specs.List.{concat, filter, filter_map, list_all, list_any, cons_option, range_with_len}
 use Rattle.std.specs.Str.{bytes_eq}
 use Rattle.com_msg.specs.declared.message.RawMessage.{RawMessage}
 use Rattle.com_msg.specs.declared.message.End.TheVariants.{Emi, Egi}
@@ -31,6 +31,7 @@ pub record HandedOut : Type 0 where
   pub text : List ℕ
   pub end_key : ℕ
 
+-- the portion that a RECEIVE gives of what it goes on with
 abbrev pub handed_of : ℕ → Kind → ℕ → List ℕ → Next → HandedOut
 handed_of unit kind size text next = record {
   unit = unit;
@@ -56,6 +57,7 @@ all_handed S (entry ∷ entries) = elim (step S entry.party entry.call) [
       (all_handed next.1 entries)
 ]
 
+-- the portions of the message with this arrival number, in order
 abbrev pub portions_of : Net → List Entry → ℕ → List HandedOut
 portions_of net history arrival =
     filter (λ portion. portion.arrival == arrival) (all_handed (opening net) history)
@@ -68,6 +70,7 @@ arrival_by net (party.Terminal name) (Arrive stamp message) =
     (terminal_number net name)
 arrival_by net _ _ = None
 
+-- all arrivals of a history, in order
 abbrev pub arrivals_of : Net → List Entry → List (ℕ × RawMessage)
 arrivals_of net history = filter_map (λ entry. arrival_by net entry.party entry.call) history
 
@@ -82,6 +85,7 @@ are_ended_once (portion ∷ []) = true
 are_ended_once (portion ∷ next ∷ portions) =
     not (is_last_key portion.end_key) && are_ended_once (next ∷ portions)
 
+-- the texts of portions, joined
 abbrev pub texts_of : List HandedOut → List ℕ
 texts_of portions = concat (map (λ portion. portion.text) portions)
 
@@ -112,6 +116,7 @@ IsWholeMessage S arrival message [] = Unit {0}
 IsWholeMessage S arrival message (portion ∷ portions) =
     IsHandedTo S arrival message (portion ∷ portions) portion.unit
 
+-- the number is one of so many arrivals
 abbrev pub is_arrived : ℕ → ℕ → Bool
 is_arrived arrival count = nat_le 1 arrival && nat_le arrival count
 
@@ -130,12 +135,16 @@ abbrev pub each_once : List ℕ → List ℕ
 each_once [] = []
 each_once (n ∷ numbers) = n ∷ filter (λ other. not (other == n)) (each_once numbers)
 
--- the arrival numbers of the messages of a leaf, in order; the next is the given number
-abbrev pub numbers_on : ℕ → ℕ → List (ℕ × RawMessage) → List ℕ
-numbers_on leaf next [] = []
-numbers_on leaf next (arrival ∷ arrivals) =
-    if arrival.0 == leaf then next ∷ numbers_on leaf (next + 1) arrivals
-    else numbers_on leaf (next + 1) arrivals
+-- the arrival is on this leaf
+abbrev pub is_arrival_on : ℕ → Option (ℕ × RawMessage) → Bool
+is_arrival_on leaf None = false
+is_arrival_on leaf (Some arrival) = arrival.0 == leaf
+
+-- the arrival numbers, from 1, of the messages of a leaf, in order
+abbrev pub numbers_on : ℕ → List (ℕ × RawMessage) → List ℕ
+numbers_on leaf arrivals =
+    filter (λ n. is_arrival_on leaf (slice_get arrivals (n - 1)))
+    (range_with_len 1 (length arrivals))
 
 -- InOrder: the messages of a leaf that have a portion are the first of its arrivals, and their
 -- first portions come in that order
@@ -143,19 +152,23 @@ abbrev pub InOrder : Net → List Entry → Type 0
 InOrder net history = (leaf : ℕ) → IsPrefixOf
     (each_once (map (λ portion. portion.arrival)
     (filter (λ portion. portion.leaf == leaf) (all_handed (opening net) history))))
-    (numbers_on leaf 1 (arrivals_of net history))
+    (numbers_on leaf (arrivals_of net history))
 
+-- a STOP of the unit of this name
 abbrev pub is_stop : List ℕ → Party → Call → Bool
 is_stop name (party.Unit other) (Stop reason) = bytes_eq name other
 is_stop name _ _ = false
 
+-- an END of the terminal of this name
 abbrev pub is_end : List ℕ → Party → Call → Bool
 is_end name (party.Terminal other) (Finish reason) = bytes_eq name other
 is_end name _ _ = false
 
+-- the entry is a STOP of the unit of this name
 abbrev pub is_stop_of : List ℕ → Entry → Bool
 is_stop_of name entry = is_stop name entry.party entry.call
 
+-- the entry is an END of the terminal of this name
 abbrev pub is_end_of : List ℕ → Entry → Bool
 is_end_of name entry = is_end name entry.party entry.call
 

@@ -1,5 +1,5 @@
 //! Laws of the definitions. A function here does nothing; its contract is the law.
-ghost use Rattle.std.specs.Prelude.{◌≡◌, ◌≢◌, ◌≤◌, ℕ, Bool, List, [], length, Some, codes};
+ghost use Rattle.std.specs.Prelude.{◌≡◌, ◌≢◌, ◌≤◌, ℕ, Bool, List, [], length, Some, IsTrue};
 ghost use Rattle.com_msg.specs.declared.rest.Kind.{Kind as KindOf};
 ghost use Rattle.com_events.specs.declared.call.Party.{Party as PartyOf};
 ghost use Rattle.com_events.specs.declared.call.Party.TheVariants as party;
@@ -8,11 +8,11 @@ ghost use Rattle.com_events.specs.declared.call.Call.TheVariants as made;
 ghost use Rattle.com_events.specs.declared.call.StopReason.{StopReason as ReasonOf};
 ghost use Rattle.com_events.specs.declared.reply.Reply.{Reply as ReplyOf};
 ghost use Rattle.com_events.specs.declared.reply.Reply.TheVariants as reply;
-ghost use Rattle.com_cd.specs.InputArea.{set_in};
-ghost use Rattle.com_cd.specs.declared.input_area.InField.TheVariants as field;
+ghost use Rattle.com_events.specs.Calls.{IsWellFormed};
+ghost use Rattle.com_cd.specs.declared.status.Status.{Status as StatusOf};
 ghost use Rattle.com_state.specs.State.{State as SystemState};
 ghost use Rattle.com_state.specs.Steps.{step, unit_number};
-ghost use Rattle.com_state.specs.Laws.{Keeps, rests_of, begun_of};
+ghost use Rattle.com_state.specs.Laws.{Keeps, rests_of, begun_of, is_refusal, Tells, ChangesStatusAlone};
 
 /// Every step leaves the network; only ARRIVE makes more messages wait; and what is queued for a
 /// terminal is still queued behind it, but for ENABLE OUTPUT.
@@ -38,13 +38,14 @@ pub fn nothing_is_left_of_a_stopped_unit()
         (rests_of next unit ≡ []) × (begun_of next unit ≡ []) }
 {}
 
-/// A RECEIVE that is refused changes the status key of its area, and nothing else there.
+/// A call that is refused changes the status key of its area, and nothing else there: RECEIVE and
+/// COUNT with 20, SEND with 30, 50 and 60, ENABLE and DISABLE with 20 and 40 for input and with 30
+/// and 40 for output. The system stays as it was, but that the unit has done one verb more.
 pub fn a_refusal_changes_the_status_alone()
-    ensures { (S next : SystemState) (name area after : List ℕ) (kind : KindOf) (size : ℕ)
-        (no_data : Bool) →
-        step S (party.Unit name) (made.Receive area kind size no_data)
-        ≡ Some (reply.Refused after, next) →
-        after ≡ set_in field.Status area (codes "20") }
+    ensures { (S next : SystemState) (party : PartyOf) (call : CallOf) (reply : ReplyOf)
+        (status : StatusOf) → IsWellFormed call → IsTrue (is_refusal call status) →
+        step S party call ≡ Some (reply, next) → Tells reply status →
+        ChangesStatusAlone S call status reply next }
 {}
 
 /// RECEIVE gives no more characters than it asks for.

@@ -5,6 +5,7 @@
 mod laws;
 mod output_rows;
 mod rows;
+mod wholeness_rows;
 
 pub use laws::{
     a_portion_is_no_longer_than_asked, a_refusal_changes_the_status_alone,
@@ -19,3 +20,4 @@ pub use rows::{
     tree_order, trees, trees_switched, two_units, uneven_order, unknown_designation,
     unknown_destination,
 };
+pub use wholeness_rows::{arrivals_on_leaves, handed_out};

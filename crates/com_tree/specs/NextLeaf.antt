@@ -1,38 +1,39 @@
 -- Which leaf a RECEIVE takes a message from, by the first message that waits on each leaf.
-use Rattle.std.specs.Prelude.{ℕ, ◌+◌, zero, suc, Bool, ◌==◌, nat_lt, unwrap_or, List, [], ◌∷◌, map, drop, Option, Some, None, option_map, option_and_then, if◌then◌else◌}
-use Rattle.std.specs.List.{take_while}
+use Rattle.std.specs.Prelude.{ℕ, ◌+◌, zero, suc, Bool, false, ◌==◌, nat_lt, unwrap_or, List, [], ◌∷◌, length, map, drop, Option, Some, None, option_map, option_and_then, slice_get, if◌then◌else◌}
+use Rattle.std.specs.List.{filter, range_with_len}
 use Rattle.com_tree.specs.declared.tree.TreeRow.{TreeRow}
 use Rattle.com_tree.specs.declared.tree.Choose.{Choose}
 use Rattle.com_tree.specs.declared.tree.Choose.TheVariants.{Ordered, Oldest}
 use Rattle.com_tree.specs.declared.tree.Node.{Node}
 use Rattle.com_tree.specs.declared.tree.Leaf.{Leaf}
-use Rattle.com_tree.specs.Written.{is_leaf, is_deeper, leaf_count}
+use Rattle.com_tree.specs.Written.{rows_below}
+use Rattle.com_tree.specs.Places.{first_leaf}
 
--- a node beside the number of leaves before it, which is a leaf's own number
-pub record Numbered : Type 0 where
-  pub row : TreeRow
-  pub number : ℕ
+-- the node of a row
+abbrev pub node_at : ℕ → Node
+node_at place = record { row = place }
 
-abbrev pub numbered_rows : ℕ → List TreeRow → List Numbered
-numbered_rows number [] = []
-numbered_rows number (row ∷ rows) =
-    record { row = row; number = number } ∷ numbered_rows (number + leaf_count (row ∷ [])) rows
+-- the nodes below a node, in written order
+abbrev pub below : List TreeRow → Node → List Node
+below rows node = elim (slice_get rows node.row) [
+  | None ↦ []
+  | Some row ↦ map node_at (range_with_len (node.row + 1)
+      (length (rows_below row.depth (drop (node.row + 1) rows))))
+]
 
--- a node with the nodes below it
-pub record Branch : Type 0 where
-  pub top : Numbered
-  pub below : List Numbered
+-- the level of a node, from 1 at the top
+abbrev pub level : List TreeRow → Node → Option ℕ
+level rows node = option_map (λ row. row.depth) (slice_get rows node.row)
 
-abbrev pub nodes_below : ℕ → List Numbered → List Numbered
-nodes_below depth nodes = take_while (λ node. is_deeper depth node.row) nodes
+-- the second level is the one below the first
+abbrev pub is_next_level : Option ℕ → Option ℕ → Bool
+is_next_level (Some upper) (Some lower) = lower == upper + 1
+is_next_level _ _ = false
 
--- the branches whose tops are of this level
-abbrev pub branches : ℕ → List Numbered → List Branch
-branches depth [] = []
-branches depth (node ∷ nodes) =
-    if node.row.depth == depth
-    then record { top = node; below = nodes_below depth nodes } ∷ branches depth nodes
-    else branches depth nodes
+-- the children of a node, in written order: of the nodes below it those of the next level
+abbrev pub children : List TreeRow → Node → List Node
+children rows node =
+    filter (λ other. is_next_level (level rows node) (level rows other)) (below rows node)
 
 -- the first that there is
 abbrev pub first_found : List (Option ℕ) → Option ℕ
@@ -53,30 +54,24 @@ oldest first (Some leaf ∷ choices) = elim (oldest first choices) [
   | Some other ↦ if is_later first leaf other then Some other else Some leaf
 ]
 
+-- what an inner node chooses of the choices of its children
 abbrev pub chosen : Choose → (ℕ → Option ℕ) → List (Option ℕ) → Option ℕ
 chosen Ordered first choices = first_found choices
 chosen Oldest first choices = oldest first choices
 
 -- a leaf chooses itself where it has a message, an inner node by the choices of its children
-abbrev pub choice_by : Numbered → Option Choose → (ℕ → Option ℕ) → List (Option ℕ) → Option ℕ
-choice_by leaf None first choices = option_map (λ arrival. leaf.number) (first leaf.number)
-choice_by node (Some choose) first choices = chosen choose first choices
+abbrev pub choice_by : ℕ → Option Choose → (ℕ → Option ℕ) → List (Option ℕ) → Option ℕ
+choice_by leaf None first choices = option_map (λ arrival. leaf) (first leaf)
+choice_by leaf (Some choose) first choices = chosen choose first choices
 
--- the choice of a branch that has no more levels than these
-abbrev pub choice : ℕ → (ℕ → Option ℕ) → Branch → Option ℕ
-choice zero first branch = None
-choice (suc levels) first branch =
-    choice_by branch.top branch.top.row.choose first
-    (map (choice levels first) (branches (branch.top.row.depth + 1) branch.below))
-
-abbrev pub first_branch : List Numbered → Option Branch
-first_branch [] = None
-first_branch (node ∷ nodes) =
-    Some (record { top = node; below = nodes_below node.row.depth nodes })
+-- the choice of a node that has no more levels than these, its own among them
+abbrev pub choice : ℕ → List TreeRow → (ℕ → Option ℕ) → Node → Option ℕ
+choice zero rows first node = None
+choice (suc levels) rows first node =
+    option_and_then (λ row. choice_by (first_leaf rows node) row.choose first
+    (map (choice levels rows first) (children rows node))) (slice_get rows node.row)
 
 -- NextLeaf: the leaf that the node chooses, where `first` gives the arrival number of the first
--- message that waits on a leaf
+-- message that waits on a leaf; a tree has no more than four levels
 abbrev pub next_leaf : List TreeRow → Node → (ℕ → Option ℕ) → Option Leaf
-next_leaf rows node first =
-    option_map (λ number. record { number = number })
-    (option_and_then (choice 4 first) (first_branch (drop node.row (numbered_rows 0 rows))))
+next_leaf rows node first = option_map (λ number. record { number = number }) (choice 4 rows first node)

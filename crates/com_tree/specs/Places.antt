@@ -1,17 +1,17 @@
 -- Nodes and leaves by their places, and their paths.
-use Rattle.std.specs.Prelude.{ℕ, ◌+◌, ◌-◌, Bool, List, [], ◌∷◌, ◌++◌, length, take, drop, Option, Some, None, option_map, if◌then◌else◌}
+use Rattle.std.specs.Prelude.{ℕ, ◌+◌, ◌-◌, List, [], ◌∷◌, ◌++◌, take, drop, Option, option_map, if◌then◌else◌}
 use Rattle.std.specs.Cmp.Lexicographic.{pointwise}
-use Rattle.std.specs.List.{position, take_while}
+use Rattle.std.specs.List.{position}
 use Rattle.std.specs.Str.{bytes_eq}
 use Rattle.com_tree.specs.declared.tree.TreeRow.{TreeRow}
 use Rattle.com_tree.specs.declared.tree.Node.{Node}
-use Rattle.com_tree.specs.declared.tree.Leaf.{Leaf}
 use Rattle.com_tree.specs.Written.{is_leaf, leaf_count, rows_below, top_count}
 
 -- the path of a node, by that of the node before it: the names above its level, and its own
 abbrev pub path_behind : List (List ℕ) → TreeRow → List (List ℕ)
 path_behind path row = take (row.depth - 1) path ++ row.name ∷ []
 
+-- the paths of the nodes that follow a node with this path
 abbrev pub paths_behind : List (List ℕ) → List TreeRow → List (List (List ℕ))
 paths_behind path [] = []
 paths_behind path (row ∷ rows) =
@@ -52,5 +52,6 @@ leaf_paths_behind path (row ∷ rows) =
     let next = path_behind path row in
     if is_leaf row then next ∷ leaf_paths_behind next rows else leaf_paths_behind next rows
 
+-- the paths of the leaves, in written order
 abbrev pub leaf_paths : List TreeRow → List (List (List ℕ))
 leaf_paths rows = leaf_paths_behind [] rows

@@ -1,5 +1,5 @@
 -- Queue trees as a description writes them: rows in preorder.
-use Rattle.std.specs.Prelude.{◌≡◌, ℕ, ◌+◌, ◌-◌, ◌≤◌, Bool, true, false, not, ◌&&◌, ◌==◌, nat_le, nat_lt, List, [], ◌∷◌, ◌++◌, length, take, IsTrue, Option, Some, None, count_by, if◌then◌else◌}
+use Rattle.std.specs.Prelude.{ℕ, ◌+◌, ◌≤◌, Bool, true, false, not, ◌&&◌, ◌==◌, nat_le, nat_lt, List, [], ◌∷◌, IsTrue, Option, Some, None, count_by, if◌then◌else◌}
 use Rattle.std.specs.List.{list_all, list_any, take_while}
 use Rattle.std.specs.Str.{bytes_eq}
 use Rattle.com_text.specs.Name.{is_name}
@@ -11,6 +11,7 @@ abbrev pub is_leaf_choice : Option Choose → Bool
 is_leaf_choice None = true
 is_leaf_choice (Some choose) = false
 
+-- the node is a leaf
 abbrev pub is_leaf : TreeRow → Bool
 is_leaf row = is_leaf_choice row.choose
 
@@ -53,6 +54,7 @@ abbrev pub is_forest : List TreeRow → Bool
 is_forest [] = false
 is_forest (row ∷ rows) = row.depth == 1 && are_nested row rows
 
+-- how many leaves there are
 abbrev pub leaf_count : List TreeRow → ℕ
 leaf_count rows = count_by is_leaf rows
 

@@ -39,7 +39,7 @@ call_countable (OfTerminal terminal) (Receive area kind size) text h = absurd h
 
 reply_countable : (reply : Reply) (text : List ℕ) → IsReplyText reply text → IsCountableReply reply
 reply_countable Started text h = tt
-reply_countable (Given area given) text h = small (length given) h.0
+reply_countable (Given area given) text h = small (length given) h.1.1
 reply_countable (NoData area) text h = tt
 reply_countable (Refused area) text h = tt
 reply_countable (Arrived number) text h = tt
@@ -69,9 +69,9 @@ call_text (OfTerminal terminal) (Receive area kind size) text h = absurd h
 
 reply_text : (reply : Reply) (text : List ℕ) → IsReplyText reply text → text ≡ reply_words reply
 reply_text Started text h = h ∙ ap (λ digits. digits ++ 58 ∷ []) (decimal_digit 0 (omega arith))
-reply_text (Given area given) text h = h.1
-reply_text (NoData area) text h = h
-reply_text (Refused area) text h = h
+reply_text (Given area given) text h = h.2
+reply_text (NoData area) text h = h.1
+reply_text (Refused area) text h = h.1
 reply_text (Arrived number) text h = h
 
 -- what is written of an entry is its line and a line feed

@@ -19,6 +19,7 @@ use Rattle.com_state.specs.Histories.{LeadsTo}
 use Rattle.com_state.proofs.Portions.{no_more_than_asked, only_started, only_arrived}
 use Rattle.mcs_top.specs.Model.{model_net, model_party, model_call, model_reply, model_entry, model_history}
 use Rattle.mcs_top.specs.Journal.{IsCallText, IsReplyText, HasText, HaveTexts, fields}
+use Rattle.mcs_top.specs.SystemState.{IsReply}
 use Rattle.mcs_top.specs.Script.{lines_of, AreCalls}
 use Rattle.mcs_top.specs.Refusal.{StopsAt}
 use Rattle.mcs_top.specs.Performing.{DoesLine, HasDone}
@@ -78,17 +79,18 @@ done_until net bytes rest after line history S number refused h first is = recor
 pub done_all : (net : Net) (bytes : List ℕ) (history : List Entry) (S : State) (number : ℕ) → HasDone net bytes [] history S number → AreCalls (lines_of bytes) history
 done_all net bytes history S number h = rw (h.lines, append-nil h.before) h.calls
 
--- the text of a reply that gives no more than 2,000 characters
+-- no more than 2,000 characters are given
 abbrev IsShort : Reply → Type 0
 IsShort (Given area text) = length text ≤ 2000
 IsShort _ = Unit {0}
 
-short_text : (reply : Reply) → IsShort reply → (text : List ℕ) × IsReplyText reply text
-short_text Started h = (counted_field [], refl)
-short_text (Given area text) h = (fields (codes "TEXT" ∷ counted_field area ∷ counted_field text ∷ []), (h, refl))
-short_text (NoData area) h = (fields (codes "NONE" ∷ counted_field area ∷ []), refl)
-short_text (Refused area) h = (fields (codes "REFUSED" ∷ counted_field area ∷ []), refl)
-short_text (Arrived number) h = (decimal number, refl)
+-- the text of such a reply
+short_text : (reply : Reply) → IsReply reply → IsShort reply → (text : List ℕ) × IsReplyText reply text
+short_text Started valid h = (counted_field [], refl)
+short_text (Given area text) valid h = (fields (codes "TEXT" ∷ counted_field area ∷ counted_field text ∷ []), (valid.0, (valid.1, h), refl))
+short_text (NoData area) valid h = (fields (codes "NONE" ∷ counted_field area ∷ []), (valid, refl))
+short_text (Refused area) valid h = (fields (codes "REFUSED" ∷ counted_field area ∷ []), (valid, refl))
+short_text (Arrived number) valid h = (decimal number, refl)
 
 -- a call that has a text gives no more than 2,000 characters
 given_short : (S next : State) (party : Party) (call : Call) (text area given : List ℕ) → IsCallText party call text
@@ -110,7 +112,7 @@ step_short S next party call text (Refused area) h stepped = tt
 step_short S next party call text (Arrived number) h stepped = tt
 
 pub step_text : (S : State) (party : Party) (call : Call) (text : List ℕ) (reply : Reply) (next : State) → IsCallText party call text
-    → step S (model_party party) (model_call call) ≡ Some (model_reply reply, next) → HasText (record { party = party; call = call; reply = reply })
-step_text S party call text reply next h stepped =
-    let told = short_text reply (step_short S next party call text reply h stepped) in
+    → step S (model_party party) (model_call call) ≡ Some (model_reply reply, next) → IsReply reply → HasText (record { party = party; call = call; reply = reply })
+step_text S party call text reply next h stepped valid =
+    let told = short_text reply valid (step_short S next party call text reply h stepped) in
     (text ++ codes " = " ++ told.0, record { call = text; reply = told.0; call_text = h; reply_text = told.1; joined = refl })

@@ -63,10 +63,12 @@ IsCallText (OfTerminal terminal) (Receive area kind size) text = ⊥
 abbrev pub IsReplyText : Reply → List ℕ → Type 0
 IsReplyText Started text = text ≡ counted_field []
 IsReplyText (Given area given) text =
-    (length given ≤ 2000)
+    IsInputArea area × IsSegment given
     × (text ≡ fields (codes "TEXT" ∷ counted_field area ∷ counted_field given ∷ []))
-IsReplyText (NoData area) text = text ≡ fields (codes "NONE" ∷ counted_field area ∷ [])
-IsReplyText (Refused area) text = text ≡ fields (codes "REFUSED" ∷ counted_field area ∷ [])
+IsReplyText (NoData area) text =
+    IsInputArea area × (text ≡ fields (codes "NONE" ∷ counted_field area ∷ []))
+IsReplyText (Refused area) text =
+    IsInputArea area × (text ≡ fields (codes "REFUSED" ∷ counted_field area ∷ []))
 IsReplyText (Arrived number) text = text ≡ decimal number
 
 -- the line of an entry

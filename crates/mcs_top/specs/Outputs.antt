@@ -1,10 +1,13 @@
 -- What a run writes: the journal, a transcript for the terminal, and a summary.
-use Rattle.std.specs.Prelude.{◌≡◌, ℕ, Bool, true, false, List, [], ◌∷◌, ◌++◌, Option, option_map, codes, decimal, count_by}
+use Rattle.std.specs.Prelude.{◌≡◌, ℕ, Bool, true, false, List, [], ◌∷◌, ◌++◌, length, Option, option_map, codes, decimal, count_by}
 use Rattle.com_io.specs.Stores.{Contents, with_output, IsPartWritten}
+use Rattle.com_state.specs.State.{Finished}
+use Rattle.com_state.specs.Transcripts.{sent_by, transcript_of}
 use Rattle.mcs_top.specs.declared.net.Net.{Net}
 use Rattle.mcs_top.specs.declared.events.Reply.{Reply}
 use Rattle.mcs_top.specs.declared.events.Reply.TheVariants.{Given, Arrived}
 use Rattle.mcs_top.specs.declared.events.Entry.{Entry}
+use Rattle.mcs_top.specs.Model.{model_net, model_history}
 
 abbrev pub is_arrival : Reply → Bool
 is_arrival (Arrived number) = true
@@ -36,17 +39,22 @@ count_lines arrivals portions transmitted =
     count_line (codes "arrivals ") arrivals
     ++ (count_line (codes "portions ") portions ++ count_line (codes "transmitted ") transmitted)
 
--- no call sends yet
-abbrev pub transmitted : List Entry → ℕ
-transmitted history = 0
+-- all that the history transmits
+abbrev pub transmitted : Net → List Entry → List Finished
+transmitted net history = sent_by (model_net net) (model_history history)
+
+-- No call that is built so far sends, so the history transmits nothing.
+abbrev pub IsSilent : Net → List Entry → Type 0
+IsSilent net history = transmitted net history ≡ []
 
 abbrev pub summary : Net → List Entry → List ℕ
 summary net history =
-    party_lines net ++ count_lines (arrivals history) (portions history) (transmitted history)
+    party_lines net
+    ++ count_lines (arrivals history) (portions history) (length (transmitted net history))
 
--- what is transmitted to the terminal: nothing, since no call sends yet
-abbrev pub transcript : List Entry → List ℕ
-transcript history = []
+-- what the history transmits to the one terminal
+abbrev pub transcript : Net → List Entry → List ℕ
+transcript net history = transcript_of (model_net net) (model_history history) 0
 
 abbrev pub journal_name : List ℕ
 journal_name = codes "journal.txt"
@@ -61,7 +69,7 @@ output_name = codes "-"
 -- all that is written, as names and bytes, in this order
 abbrev pub outputs : Net → List Entry → List ℕ → List (List ℕ × List ℕ)
 outputs net history journal =
-    (journal_name, journal) ∷ (transcript_name net.terminal.name, transcript history)
+    (journal_name, journal) ∷ (transcript_name net.terminal.name, transcript net history)
     ∷ (output_name, summary net history) ∷ []
 
 -- the contents after some writes, one after another

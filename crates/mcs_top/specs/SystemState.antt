@@ -2,6 +2,8 @@
 use Rattle.std.specs.Prelude.{◌≡◌, ℕ, ◌≤◌, Bool, true, false, ◌&&◌, nat_lt, List, [], ◌∷◌, length, map, Option, Some, None, Result, Err, IfOk, IfSome}
 use Rattle.std.specs.List.{AllByRecursion}
 use Rattle.std.specs.Str.{bytes_eq}
+use Rattle.com_text.specs.Text.{IsText}
+use Rattle.com_cd.specs.InputArea.{IsInputArea}
 use Rattle.com_msg.specs.declared.message.Message.{Message}
 use Rattle.com_state.specs.State.{State, Waiting, Held, UnitMode, dormant, running, feeding}
 use Rattle.com_state.specs.Steps.{step}
@@ -15,6 +17,7 @@ use Rattle.mcs_top.specs.declared.events.Party.{Party}
 use Rattle.mcs_top.specs.declared.events.Call.{Call}
 use Rattle.mcs_top.specs.declared.events.Call.TheVariants.{Start, Receive, Arrive}
 use Rattle.mcs_top.specs.declared.events.Reply.{Reply}
+use Rattle.mcs_top.specs.declared.events.Reply.TheVariants.{Started, Given, NoData, Refused, Arrived}
 use Rattle.mcs_top.specs.Model.{model_net, model_party, model_call, model_reply}
 
 abbrev pub model_mode : Mode → UnitMode
@@ -86,6 +89,14 @@ abbrev pub IsWellFormed : Call → Type 0
 IsWellFormed (Receive area kind size) = (1 ≤ size) × (size ≤ 2000)
 IsWellFormed Start = Unit {0}
 IsWellFormed (Arrive stamp message) = 1 ≤ length message.segments
+
+-- a reply's area is an area, and its text is a text
+abbrev pub IsReply : Reply → Type 0
+IsReply (Given area text) = IsInputArea area × IsText text
+IsReply (NoData area) = IsInputArea area
+IsReply (Refused area) = IsInputArea area
+IsReply Started = Unit {0}
+IsReply (Arrived number) = Unit {0}
 
 abbrev pub HasSegment : Message → Type 0
 HasSegment message = 1 ≤ length message.segments

@@ -3,6 +3,7 @@ ghost use Rattle.std.specs.Prelude.{◌≡◌, ◌<◌, length};
 ghost use Rattle.com_msg.specs.Portion.{IsEndKey};
 ghost use Rattle.com_text.specs.Text.{IsText};
 ghost use Rattle.com_text.specs.Digits.{in_digits};
+ghost use Rattle.com_cd.specs.InputArea.{IsInputArea};
 ghost use Rattle.com_cd.specs.declared.status.Status.TheVariants.{S20};
 ghost use Rattle.com_state.specs.Queues.{no_data_area, with_status, with_origin, with_text};
 ghost use Rattle.mcs_top.specs.Areas.{is_named, given_area, with_path};
@@ -31,7 +32,8 @@ pub fn is_named(queue: &Name, area: &InArea) -> bool
 pub fn given_area(queue: &Name, rest: &Rest, portion: &Portion, area: &InArea) -> InArea
     requires short { length portion.now.text < 10000 }
     requires end_key { IsEndKey portion.now.end_key }
-    ensures { result ≡ given_area queue.now rest.now portion.now area.now }
+    ensures area { result ≡ given_area queue.now rest.now portion.now area.now }
+    ensures valid { IsInputArea result }
 {
     let area = with_path(queue, *area);
     let area = with_origin(rest, area);
@@ -41,14 +43,16 @@ pub fn given_area(queue: &Name, rest: &Rest, portion: &Portion, area: &InArea) -
 
 /// The area after a RECEIVE that found nothing.
 pub fn no_data_area(area: &InArea) -> InArea
-    ensures { result ≡ no_data_area area.now }
+    ensures area { result ≡ no_data_area area.now }
+    ensures valid { IsInputArea result }
 {
     with_portion(b"0000", b"0", *area)
 }
 
 /// The area after a RECEIVE whose names are no queue's.
 pub fn refused_area(area: &InArea) -> InArea
-    ensures { result ≡ with_status S20 area.now }
+    ensures area { result ≡ with_status S20 area.now }
+    ensures valid { IsInputArea result }
 {
     let mut area = *area;
     area.set(InField::Status, &Status::S20.bytes());
@@ -78,7 +82,8 @@ fn with_origin(rest: &Rest, mut area: InArea) -> InArea
 fn with_portion(length: &[u8; 4], end_key: &[u8; 1], mut area: InArea) -> InArea
     requires length { IsText length.now }
     requires end_key { IsText end_key.now }
-    ensures { result ≡ with_text length.now end_key.now area }
+    ensures area { result ≡ with_text length.now end_key.now area }
+    ensures valid { IsInputArea result }
 {
     area.set(InField::Length, length);
     area.set(InField::EndKey, end_key);

@@ -1,7 +1,7 @@
 //! What a run writes.
 ghost use Rattle.std.specs.Prelude.{◌≡◌, ◌++◌, map, option_map, string_bytes, IfOk, OnOk, OnErr, IsOk, IsErrOf, count_by};
 ghost use Rattle.com_io.specs.Faults.{HasCause};
-ghost use Rattle.mcs_top.specs.Outputs.{arrivals, portions, is_arrival, is_portion, party_line, count_line, count_lines, summary, transcript_name, contents_after, IsPartlyWritten};
+ghost use Rattle.mcs_top.specs.Outputs.{IsSilent, arrivals, portions, is_arrival, is_portion, party_line, count_line, count_lines, summary, transcript_name, contents_after, IsPartlyWritten};
 ghost use Rattle.mcs_top.specs.Journal.{HaveTexts};
 ghost use Rattle.mcs_top.specs.Writes.{write_of, writes_of, AreTextsOf};
 
@@ -38,7 +38,8 @@ pub struct Texts {
 
 impl Texts {
     pub fn new(alloc: Global, net: &Net, history: &[Entry]) -> Result<Texts, AllocError>
-        requires { HaveTexts history.now }
+        requires texts { HaveTexts history.now }
+        requires silent { IsSilent net.now history.now }
         ensures { IfOk result (AreTextsOf net.now history.now) }
     {
         Ok(Texts {
@@ -102,6 +103,7 @@ fn write_all<S: Store>(store: &mut S, outputs: &[Output<'_>]) -> Result<(), Stor
 
 /// The summary of a history.
 fn summary(alloc: Global, net: &Net, history: &[Entry]) -> Result<Rows<u8>, AllocError>
+    requires { IsSilent net.now history.now }
     ensures { IfOk result (λ text. text ≡ summary net.now history.now) }
 {
     let mut out = Rows::new(alloc);

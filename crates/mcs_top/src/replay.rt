@@ -2,6 +2,7 @@
 ghost use Rattle.std.specs.Prelude.{◌≡◌, OnOk, IfOk, IfErr};
 ghost use Rattle.mcs_top.specs.Journal.{HaveTexts};
 ghost use Rattle.mcs_top.specs.Files.{IsRead};
+ghost use Rattle.mcs_top.specs.Outputs.{IsSilent};
 ghost use Rattle.mcs_top.specs.Replay.{IsNetRead, IsScriptDone, HasReplayed};
 ghost use Rattle.mcs_top.specs.Failing.{IsNotReadFor, IsNetFault, IsScriptFault, HasWritten, IsWriteFault, HasFailed};
 
@@ -81,6 +82,7 @@ fn perform_file<'a, S: Store>(
     ensures ok { IfOk result
         (IsScriptDone script_file.now net.now (S.shows store.old) (S.shows store.new)) }
     ensures texts { IfOk result HaveTexts }
+    ensures silent { IfOk result (IsSilent net.now) }
     ensures err { IfErr result
         (IsScriptFault script_file.now net.now (S.shows store.old) (S.shows store.new)) }
     ensures pending { (S.shows store.new).pending ≡ (S.shows store.old).pending }
@@ -118,7 +120,8 @@ fn write_history<'a, S: Store>(
     history: &[Entry],
     store: &mut S,
 ) -> Result<(), Fault<'a>>
-    requires { HaveTexts history.now }
+    requires texts { HaveTexts history.now }
+    requires silent { IsSilent net.now history.now }
     ensures ok { OnOk result
         (HasWritten net.now history.now (S.shows store.old) (S.shows store.new)) }
     ensures err { IfErr result

@@ -6,6 +6,7 @@ ghost use Rattle.mcs_top.specs.Model.{model_net, model_history};
 ghost use Rattle.mcs_top.specs.SystemState.{state_of, HasSegments};
 ghost use Rattle.mcs_top.specs.Journal.{HaveTexts};
 ghost use Rattle.mcs_top.specs.Files.{file_limit};
+ghost use Rattle.mcs_top.specs.Outputs.{IsSilent};
 ghost use Rattle.mcs_top.specs.Script.{MakesCallsOf, AreCalls, lines_of, is_line_feed};
 ghost use Rattle.mcs_top.specs.Refusal.{TellsRefusedLine};
 ghost use Rattle.mcs_top.specs.Performing.{DoesLine, IsLineRefused, IsStopped, fault_at};
@@ -56,6 +57,7 @@ pub fn perform(alloc: Global, net: &Net, script: &[u8]) -> Result<Rows<Entry>, S
     ensures legal { IfOk result (λ history. Legal (model_net net.now) (model_history history)) }
     ensures ran { IfOk result (λ history. IsRun (model_net net.now) (model_history history)) }
     ensures texts { IfOk result HaveTexts }
+    ensures silent { IfOk result (IsSilent net.now) }
     ensures refused { IfErr result (TellsRefusedLine net.now script.now) }
 {
     if script.len() > FILE_LIMIT {
@@ -79,6 +81,7 @@ fn perform_lines(alloc: Global, net: &Net, lines: &[u8]) -> Result<Rows<Entry>, 
     ensures calls { IfOk result (AreCalls (lines_of lines.now)) }
     ensures legal { IfOk result (λ history. Legal (model_net net.now) (model_history history)) }
     ensures texts { IfOk result HaveTexts }
+    ensures silent { IfOk result (IsSilent net.now) }
     ensures refused { IfErr result (IsStopped net.now (lines_of lines.now)) }
 {
     let mut system = System::new(alloc, net);

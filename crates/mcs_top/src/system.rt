@@ -5,7 +5,7 @@ ghost use Rattle.mcs_top.specs.declared.events.Call.TheVariants as made;
 ghost use Rattle.com_state.specs.State.{opening};
 ghost use Rattle.com_state.specs.Queues.{give};
 ghost use Rattle.mcs_top.specs.Model.{model_net, model_reply};
-ghost use Rattle.mcs_top.specs.SystemState.{state_of, is_dormant, is_running, may_do_verb, first_rest, rest_held, DoesStep, IsWellFormed, HasSegment, HasSegments};
+ghost use Rattle.mcs_top.specs.SystemState.{state_of, is_dormant, is_running, may_do_verb, first_rest, rest_held, DoesStep, IsReply, IsWellFormed, HasSegment, HasSegments};
 
 use crate::areas::{given_area, is_named, no_data_area, refused_area};
 use crate::events::{Call, Party, Reply};
@@ -72,6 +72,7 @@ impl<'a> System<'a> {
         requires call { IsWellFormed call.now }
         requires segments { HasSegments self.old }
         ensures step { DoesStep (state_of self.old) party.now call.now result (state_of self.new) }
+        ensures valid { IfOk result IsReply }
         ensures segments { OnOk result (HasSegments self.new) }
     {
         match party {
@@ -112,6 +113,7 @@ impl<'a> System<'a> {
         requires { HasSegments self.old }
         ensures step { DoesStep (state_of self.old) (party.Unit unit.now) made.Start result
             (state_of self.new) }
+        ensures valid { IfOk result IsReply }
         ensures segments { OnOk result (HasSegments self.new) }
     {
         if self.net.unit.name.as_bytes() != unit.as_bytes() || !self.is_dormant() {
@@ -132,6 +134,7 @@ impl<'a> System<'a> {
         requires segments { HasSegments self.old }
         ensures step { DoesStep (state_of self.old) (party.Unit unit.now)
             (made.Receive area.now kind size) result (state_of self.new) }
+        ensures valid { IfOk result IsReply }
         ensures segments { OnOk result (HasSegments self.new) }
     {
         if !self.may_do_verb(unit) {
@@ -190,6 +193,7 @@ impl<'a> System<'a> {
         ensures given { IfOk result (λ reply. (model_reply reply, state_of self.new)
             ≡ give (state_of self.old) 0 area.now kind size
             (record { leaf = 0; rest = rest; waiting = (state_of self.old).waiting })) }
+        ensures valid { IfOk result IsReply }
         ensures segments { OnOk result (HasSegments self.new) }
         ensures memory { IfErr result (λ fault. fault ≡ CallFault.Memory) }
     {
@@ -214,6 +218,7 @@ impl<'a> System<'a> {
         requires segments { HasSegments self.old }
         ensures step { DoesStep (state_of self.old) (party.Terminal terminal.now)
             (made.Arrive stamp message.now) result (state_of self.new) }
+        ensures valid { IfOk result IsReply }
         ensures segments { OnOk result (HasSegments self.new) }
     {
         let may = self.net.terminal.name.as_bytes() == terminal.as_bytes()

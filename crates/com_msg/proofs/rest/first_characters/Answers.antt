@@ -26,8 +26,8 @@ loop-piece-preserved c =
       rw items (IsText-append bytes (take given piece) text (IsText-take given piece (IsText-take (length whole - skipped) (drop skipped whole) (IsText-drop skipped whole whole-text)))),
     )
 
-pub returns : goal.returns
-returns c =
+pub returns-clause-characters : goal.returns-clause-characters
+returns-clause-characters c =
     let (same, short, _, text) = c.loop-piece.invariant in
     let bytes = c.loop-piece.bytes.items in
     let due = c.args.size - length bytes in

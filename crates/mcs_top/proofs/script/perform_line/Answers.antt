@@ -19,5 +19,5 @@ returns-clause-done c =
       added = added;
       text = text;
       stepped = stepped;
-      written = step_text (state_of c.args.system.now) party call c.args.line.now reply (state_of c.apply.new.self) text stepped;
+      written = step_text (state_of c.args.system.now) party call c.args.line.now reply (state_of c.apply.new.self) text stepped c.in-Ok-apply.ensures.valid;
     }

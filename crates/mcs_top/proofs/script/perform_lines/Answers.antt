@@ -1,5 +1,7 @@
 use Rattle.std.proofs.Common.{◌<◌, length, arith}
 use Rattle.std.proofs.lemmas.Bool.Decides.{nat_tests}
+use Rattle.com_state.proofs.Runs.{sent_of_leads}
+use Rattle.mcs_top.specs.Model.{model_net, model_history}
 use Rattle.mcs_top.specs.SystemState.{state_of}
 use Rattle.mcs_top.proofs.Performance.{done_more}
 use Rattle.mcs_top.proofs.script.perform_lines.Goals as goal
@@ -13,3 +15,8 @@ loop-rest-preserved c =
       few = omega (arith, c.next_line.ensures.shorter some);
       segments = c.in_default.ensures.segments;
     }
+
+-- no call that was done sends
+pub returns-clause-silent : goal.returns-clause-silent
+returns-clause-silent c =
+    sent_of_leads (model_net c.args.net.now) (model_history c.loop-rest.history) (state_of c.loop-rest.system) c.loop-rest.invariant.done.done

@@ -3,7 +3,7 @@ use Rattle.std.proofs.Math.ListN.{length-take}
 use borrow.Rule.Slice.PartMut.{put_mid}
 use Rattle.com_text.specs.Text.{IsText}
 use Rattle.com_text.proofs.Texts.{IsText-append, IsText-take, IsText-drop}
-use Rattle.com_cd.specs.InputArea.{start_of, width_of}
+use Rattle.com_cd.specs.InputArea.{IsInputArea, start_of, width_of}
 use Rattle.com_cd.specs.declared.input_area.InField.{InField}
 use Rattle.com_cd.specs.declared.input_area.InField.TheVariants.{Queue, Sub1, Sub2, Sub3, Date, Time, Source, Length, EndKey, Status, Count}
 use Rattle.com_cd.proofs.input_area.InArea.set.Goals as goal
@@ -30,8 +30,9 @@ field_within EndKey = omega arith
 field_within Status = omega arith
 field_within Count = omega arith
 
-pub invariant_of-self : goal.invariant_of-self
-invariant_of-self c =
+-- the characters are still an area
+still_area : (c : goal.After-copy_from_slice) → IsInputArea (put_mid c.start-start.result (c.start-start.result + c.width.result - c.start-start.result) c.self.inside.bytes c.copy_from_slice.new.self)
+still_area c =
     let start = c.start-start.result in
     let width = c.start-start.result + c.width.result - c.start-start.result in
     let within : start + width ≤ length c.self.inside.bytes = omega (arith, field_within c.args.field) in
@@ -40,3 +41,9 @@ invariant_of-self c =
       length = length_over start width c.self.inside.bytes c.copy_from_slice.new.self within same ∙ c.self.told;
       text = text_over start width c.self.inside.bytes c.copy_from_slice.new.self c.self.invariant.text (rw c.copy_from_slice.ensures.after c.requires.text);
     }
+
+pub invariant_of-self : goal.invariant_of-self
+invariant_of-self c = still_area c
+
+pub returns-clause-valid : goal.returns-clause-valid
+returns-clause-valid c = still_area c

@@ -1,4 +1,4 @@
-use Rattle.std.proofs.Common.{◌≡◌, ℕ, ◌+◌, ◌-◌, ◌*◌, List, length, take, arith, ap, ◌∙◌}
+use Rattle.std.proofs.Common.{◌≡◌, ℕ, ◌+◌, ◌-◌, ◌*◌, List, length, take, arith, ap, sym, ◌∙◌}
 use borrow.Rule.Slice.PartMut.{put_mid}
 use Rattle.com_text.specs.Text.{IsText}
 use Rattle.com_cd.specs.OutputArea.{IsFieldOf, IsOutputArea, occurrences_of, out_start, out_width, padded_area, set_out}
@@ -37,5 +37,11 @@ held_copied c =
 pub invariant_of-self : goal.invariant_of-self
 invariant_of-self c = (held_copied c).0
 
-pub returns : goal.returns
-returns c = (held_copied c).1 ∙ ap (set_out c.args.field c.args.self.now) c.copy_from_slice.ensures.after
+pub returns-clause-area : goal.returns-clause-area
+returns-clause-area c = (held_copied c).1 ∙ ap (set_out c.args.field c.args.self.now) c.copy_from_slice.ensures.after
+
+pub returns-clause-valid : goal.returns-clause-valid
+returns-clause-valid c = (held_copied c).0.0
+
+pub returns-clause-occurrences : goal.returns-clause-occurrences
+returns-clause-occurrences c = sym (held_copied c).0.1 ∙ (c.self.invariant.1 ∙ ap occurrences_of c.self.view_is)

@@ -13,7 +13,7 @@ returns-then-is_longer-clause-portion c =
     let behind = c.place_behind-behind.result in
     let whole : take (length c.as_slice.result.now - place.segment) (drop place.segment c.as_slice.result.now) ≡ pieces =
     rw c.as_slice.ensures (to-the-end place.segment segments) in
-    let text : c.in_ok-text.text ≡ take c.args.size (concat (pieces_at place segments)) = rw whole at c.in_ok-text.ensures in
+    let text : c.in_ok-text.text ≡ take c.args.size (concat (pieces_at place segments)) = rw whole at c.in_ok-text.ensures.characters in
     let longer : true ≡ nat_lt (place.taken + c.args.size) (length (concat pieces)) = rw whole at c.if-is_longer.ensures in
     let left : pieces_at behind pieces ≡ drop_characters (place.taken + c.args.size) pieces = rw whole at c.place_behind-behind.ensures.left in
     rw (← c.self.view_is, text) (sym (message-goes-on c.args.size place behind c.self.inside.message c.requires.size c.self.invariant (sym longer) left))

@@ -5,7 +5,7 @@ use Rattle.mcs_top.proofs.system.System.give.Goals as goal
 pub returns-clause-given : goal.returns-clause-given
 returns-clause-given c =
     let system = c.args.self.now in
-    rw (c.given_area-area.ensures, c.unspent.ensures, c.requires.none_held)
+    rw (c.given_area-area.ensures.area, c.unspent.ensures, c.requires.none_held)
     (given_portion system.net.now system.waiting.items system.arrivals system.unit system.verbs c.args.area.now c.args.kind c.args.size c.args.rest c.take.new.self c.in-Ok.portion c.in-Ok.ensures.portion)
 
 pub returns-clause-segments : goal.returns-clause-segments

@@ -28,7 +28,7 @@ returns-then-not-is_named-clause-step c =
     let may : may_do_verb system c.args.unit.now ≡ true = search rules in
     let other : is_named system.net.now.queue.name c.args.area.now ≡ false = search rules in
     record {
-      done = rw c.refused_area.ensures
+      done = rw c.refused_area.ensures.area
           (refused_step system.net.now system.waiting.items system.held system.arrivals system.unit system.verbs c.args.unit.now c.args.area.now c.args.kind c.args.size may other);
       not_allowed = λ e.
           let never : ⊥ = cc in
@@ -42,7 +42,7 @@ returns-in-None-clause-step c =
     let named : is_named system.net.now.queue.name c.args.area.now ≡ true = search rules in
     let none : first_rest system.held system.waiting.items ≡ None = sym c.in-None.ensures.rest in
     record {
-      done = rw (c.no_data_area.ensures, c.in-None.ensures.none)
+      done = rw (c.no_data_area.ensures.area, c.in-None.ensures.none)
           (empty_step system.net.now system.waiting.items system.held system.arrivals system.unit system.verbs c.args.unit.now c.args.area.now c.args.kind c.args.size may named none);
       not_allowed = λ e.
           let never : ⊥ = cc in
