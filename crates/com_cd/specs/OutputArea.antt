@@ -68,7 +68,7 @@ is_destination_count area field =
     all_ascii_digits field
     && (nat_le 1 (number field) && nat_le (number field) (occurrences_of area))
 
--- the number of DESTINATION COUNT, where the area has so many occurrences
+-- the number of DESTINATION COUNT, where it is 1 or more and the area has so many occurrences
 abbrev pub destination_count : List ℕ → Option ℕ
 destination_count area =
     if is_destination_count area (out_field Count area) then Some (number (out_field Count area))

@@ -55,7 +55,7 @@ pub record IsTerminalMessage (message : RawMessage) : Type 0 where
   pub each : AllByRecursion IsSegment message.segments
   pub short : length (concat message.segments) ≤ 9999
 
--- a place that can be written in 18 digits
+-- the place of a fault can be written in 18 digits; the other reasons have no parts
 abbrev pub IsEndReason : EndReason → Type 0
 IsEndReason (finish.Frame fault) = fault.at < 10 ^ 18
 IsEndReason finish.End = Unit {0}
@@ -77,7 +77,7 @@ IsWellFormed Held = Unit {0}
 IsWellFormed (Stop reason) = Unit {0}
 IsWellFormed (Finish reason) = IsEndReason reason
 
--- a unit's call, and a terminal's
+-- a call that a unit makes; the others are those of terminals
 abbrev pub IsUnitCall : Call → Type 0
 IsUnitCall Start = Unit {0}
 IsUnitCall (Receive area kind size no_data) = Unit {0}

@@ -51,12 +51,12 @@ names_of_units (unit ∷ units) = unit.name ∷ names_of_units units
 abbrev pub is_no_top : List TreeRow → List ℕ → Bool
 is_no_top tree name = not (list_any (has_name 1 name) tree)
 
--- the terminal's messages come from a file, and wait on a leaf of this tree
+-- where the terminal has a feed, its messages come from a file, and wait on a leaf of this tree
 abbrev pub IsFedOf : List TreeRow → Terminal → Type 0
 IsFedOf tree terminal = IfSome terminal.feed
     (λ feed. IsTrue (is_file_name feed.file) × (feed.leaf.number < leaf_count tree))
 
--- the unit's schedule is a node of this tree
+-- where the unit has a schedule, it is a node of this tree
 abbrev pub IsScheduledOf : List TreeRow → UnitRow → Type 0
 IsScheduledOf tree unit = IfSome unit.schedule (λ node. node.row < length tree)
 

@@ -63,7 +63,7 @@ with_out_status status area = set_out field.Status area (status_bytes status)
 abbrev pub is_on : List Bool → ℕ → Bool
 is_on flags at = unwrap_or (slice_get flags at) false
 
--- what a unit has begun to send to a destination
+-- this is what the unit has begun to send to the destination
 abbrev pub is_begun_for : ℕ → ℕ → Begun → Bool
 is_begun_for unit destination b = b.unit == unit && b.destination == destination
 
@@ -105,7 +105,7 @@ deliver S message =
     if is_on S.output_on message.destination then record S { sent = S.sent ++ message ∷ [] }
     else record S { queued = S.queued ++ message ∷ [] }
 
--- the message goes, and nothing is begun for its destination
+-- the message goes, and what the unit had begun for its destination is gone
 abbrev pub finish : State → Begun → End → State
 finish S b end = deliver (record S { begun = others_begun b S.begun }) (finished b end)
 

@@ -199,6 +199,23 @@ uneven_order =
     (codes "TP          ") (codes "1")
     ∷ []
 
+-- of a tree of four levels, a node low down takes nothing from the branch beside it, and the top
+-- takes from the lowest level
+abbrev pub four_levels : List Entry
+four_levels =
+    starts (codes "ECHO")
+    ∷ arrives_from (codes "TB1") (codes "ONE") 1
+    ∷ by_unit (codes "ECHO")
+    (call.Receive (named (codes "ORDERS      NORTH       A                       ")
+    (codes "00")) kind.Message 20 true)
+    (reply.NoData (named (codes "ORDERS      NORTH       A                       ") (codes "00")))
+    ∷ by_unit (codes "ECHO")
+    (call.Receive (named (codes "ORDERS                                          ")
+    (codes "00")) kind.Message 20 true)
+    (reply.Given (area_of (codes "ORDERS      NORTH       B           B1          ")
+    (codes "74060110203000TB1         ") (codes "0003200000000")) (codes "ONE"))
+    ∷ []
+
 -- ECHO asks for characters under a node
 abbrev pub under_gives : List ℕ → ℕ → List ℕ → List ℕ → List ℕ → List ℕ → Entry
 under_gives asked size names source result text = by_unit (codes "ECHO")

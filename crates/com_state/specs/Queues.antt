@@ -56,7 +56,7 @@ without_first leaf [] = []
 without_first leaf (w ∷ waiting) =
     if w.leaf == leaf then waiting else w ∷ without_first leaf waiting
 
--- what the unit holds from a leaf
+-- this is what the unit holds from the leaf
 abbrev pub is_held_on : ℕ → ℕ → Held → Bool
 is_held_on unit leaf h = h.unit == unit && h.leaf == leaf
 

@@ -118,7 +118,7 @@ is_path_open S terminal = elim (feed_of S.net terminal) [
   | Some feed ↦ is_on S.input_on terminal && is_on S.leaf_on feed.leaf.number
 ]
 
--- the leaf whose first message starts the unit
+-- the node under which a message starts the unit, where it has a schedule
 abbrev pub schedule_of : Net → ℕ → Option Node
 schedule_of net unit = option_and_then (λ u. u.schedule) (slice_get net.units unit)
 
@@ -156,7 +156,8 @@ step_receive S unit area kind size no_data =
     else next_if (is_waiting_for (unit_mode S unit) area kind size no_data && is_ready S unit area)
     (with_reply unit (receive S unit area kind size))
 
--- a unit that can go on no further: stopped, waiting for what is not there, or never started
+-- a unit that can go on no further: stopped, waiting for what is not there, or not started since
+-- nothing waits under the node of its schedule
 abbrev pub is_unit_idle : State → ℕ → Option UnitMode → Bool
 is_unit_idle S unit (Some stopped) = true
 is_unit_idle S unit (Some (waiting_for area kind size)) = not (is_ready S unit area)
@@ -188,7 +189,7 @@ stop_unit S unit = with_unit_mode unit stopped (record S {
   begun = filter (λ b. not (b.unit == unit)) S.begun;
 })
 
--- the unit stands where only the end of everything stops it
+-- the unit waits, or has not started: it does not stop by itself there
 abbrev pub waits_or_sleeps : Option UnitMode → Bool
 waits_or_sleeps (Some dormant) = true
 waits_or_sleeps (Some (waiting_for area kind size)) = true

@@ -62,7 +62,7 @@ abbrev pub portions_of : Net → List Entry → ℕ → List HandedOut
 portions_of net history arrival =
     filter (λ portion. portion.arrival == arrival) (all_handed (opening net) history)
 
--- the messages that have arrived, each beside its leaf, in order
+-- the message that a call brings, beside its leaf
 abbrev pub arrival_by : Net → Party → Call → Option (ℕ × RawMessage)
 arrival_by net (party.Terminal name) (Arrive stamp message) =
     option_and_then

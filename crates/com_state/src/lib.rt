@@ -14,10 +14,10 @@ pub use laws::{
 };
 pub use output_rows::{counted_destinations, further_limits, key_order, transcripts, two_senders};
 pub use rows::{
-    both_wait, empty_segments, first_calls, held_arrival, input_switched, limits, mixed_portions,
-    networks, never_started, output_switched, outputs_switched, portions_of_five, purged_at_stop,
-    resumed, scheduled, send_keys, sent_in_segments, several_rests, shown_is_legal, shut_out,
-    tree_order, trees, trees_switched, two_units, uneven_order, unknown_designation,
+    both_wait, empty_segments, first_calls, four_levels, held_arrival, input_switched, limits,
+    mixed_portions, networks, never_started, output_switched, outputs_switched, portions_of_five,
+    purged_at_stop, resumed, scheduled, send_keys, sent_in_segments, several_rests, shown_is_legal,
+    shut_out, tree_order, trees, trees_switched, two_units, uneven_order, unknown_designation,
     unknown_destination,
 };
 pub use wholeness_rows::{arrivals_on_leaves, handed_out};

@@ -11,7 +11,7 @@ ghost use Rattle.com_net.specs.declared.net.Net.{Net};
 ghost use Rattle.com_events.specs.declared.entry.Entry.{Entry};
 ghost use Rattle.com_state.specs.Histories.{Legal, IsRun};
 ghost use Rattle.com_state.specs.Steps.{step};
-ghost use Rattle.com_state.specs.FurtherRows.{echo_party, t1_party, mixed_portions, input_off, input_switched, arrival, two_trees_net, trees_switched, uneven_net, uneven_order, several_rests, later_rest, let_in, asks_for, asks_by_other_area, asks_for_segment, asks_with_no_data, waited, waited_enough, resumed, shut_out, sent_in_segments, sent_to_t1, queued_for_t2, worn, outputs_switched, never_started, still_to_start, both_wait, node_at, leaf_at, cousins, twins};
+ghost use Rattle.com_state.specs.FurtherRows.{echo_party, t1_party, mixed_portions, input_off, input_switched, arrival, two_trees_net, trees_switched, uneven_net, uneven_order, four_levels, several_rests, later_rest, let_in, asks_for, asks_by_other_area, asks_for_segment, asks_with_no_data, waited, waited_enough, resumed, shut_out, sent_in_segments, sent_to_t1, queued_for_t2, worn, outputs_switched, never_started, still_to_start, both_wait, node_at, leaf_at, cousins, twins};
 ghost use Rattle.com_state.specs.Rows.{q1_area, starts, Delivers, Begins, Holds, Enables, Counts, Takes, Excludes, n1, portions_of_five, empty_segments, unknown_designation, two_units_net, two_units, orders_net, tree_order, two_terminals_net, unknown_destination, one_line_for, purged_portion, purged_at_stop, hello_begun, send_keys, output_off, output_switched, scheduled_net, scheduled, closed_net, held_first, held_arrival};
 
 /// A history is legal just where its calls get its replies.
@@ -45,6 +45,11 @@ pub fn two_units()
 /// A tree of four levels chooses by the order of writing and by the order of arrival.
 pub fn tree_order()
     ensures { IsRun orders_net tree_order }
+{}
+
+/// A node takes nothing from outside its branch, and from each level of it.
+pub fn four_levels()
+    ensures { IsRun orders_net four_levels }
 {}
 
 /// A SEND serves each terminal that it knows, once.

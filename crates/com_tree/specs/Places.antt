@@ -45,7 +45,7 @@ past_leaf rows node = first_leaf rows node + leaf_count (branch_of (drop node.ro
 abbrev pub top_of : List TreeRow → Node → ℕ
 top_of rows node = top_count (take (node.row + 1) rows) - 1
 
--- the paths of the leaves, in written order
+-- the paths of the leaves among the nodes that follow a node with this path
 abbrev pub leaf_paths_behind : List (List ℕ) → List TreeRow → List (List (List ℕ))
 leaf_paths_behind path [] = []
 leaf_paths_behind path (row ∷ rows) =

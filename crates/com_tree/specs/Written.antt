@@ -27,7 +27,8 @@ rows_below depth rows = take_while (is_deeper depth) rows
 abbrev pub has_name : ℕ → List ℕ → TreeRow → Bool
 has_name depth name row = row.depth == depth && bytes_eq row.name name
 
--- the siblings that follow a node: up to the first row that stands above its level
+-- the siblings that follow a node, with all that stands below it and them: up to the first row
+-- above its level
 abbrev pub siblings_behind : ℕ → List TreeRow → List TreeRow
 siblings_behind depth rows = take_while (λ row. nat_le depth row.depth) rows
 
