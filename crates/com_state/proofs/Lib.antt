@@ -3,5 +3,24 @@ mod Kept
 mod Stepped
 mod Others
 mod Refusals
+mod Members
+mod Taken
+mod Onces
+mod Branches
+mod Chosen
+mod Places
+mod Stays
+mod Aside
+mod Changes
+mod Receives
+mod Changing
+mod Firsts
+mod Numbers
+mod Accounts
+mod Arriving
+mod Going
+mod Portioned
+mod Giving
+mod Whole
 pub mod Portions
 pub mod Runs

@@ -12,6 +12,7 @@ ghost use Rattle.com_events.specs.Calls.{IsWellFormed};
 ghost use Rattle.com_cd.specs.declared.status.Status.{Status as StatusOf};
 ghost use Rattle.com_state.specs.State.{State as SystemState};
 ghost use Rattle.com_state.specs.Steps.{step, unit_number};
+ghost use Rattle.com_state.specs.Wholeness.{EveryHistoryIsWhole};
 ghost use Rattle.com_state.specs.Laws.{Keeps, rests_of, begun_of, is_refusal, Tells, ChangesStatusAlone};
 
 /// Every step leaves the network; only ARRIVE makes more messages wait; and what is queued for a
@@ -63,4 +64,10 @@ pub fn others_are_left_by_a_stop()
         (reply : ReplyOf) → unit_number S.net name ≡ Some unit → other ≢ unit →
         step S (party.Unit name) (made.Stop reason) ≡ Some (reply, next) →
         (rests_of next other ≡ rests_of S other) × (begun_of next other ≡ begun_of S other) }
+{}
+
+/// Every legal history hands messages out whole, each to one unit, and in the order of arrival on
+/// each leaf.
+pub fn every_history_is_whole()
+    ensures { EveryHistoryIsWhole }
 {}

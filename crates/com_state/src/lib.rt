@@ -8,7 +8,7 @@ mod rows;
 mod wholeness_rows;
 
 pub use laws::{
-    a_portion_is_no_longer_than_asked, a_refusal_changes_the_status_alone,
+    a_portion_is_no_longer_than_asked, a_refusal_changes_the_status_alone, every_history_is_whole,
     nothing_is_left_of_a_stopped_unit, others_are_left_by_a_stop, others_keep_their_rests,
     step_keeps,
 };
