@@ -1,4 +1,4 @@
-//! Tests of texts, messages, areas and the outside: each public call with ample memory.
+//! Tests of texts, messages, areas, trees and the outside: each public call with ample memory.
 #![tactic(auto)]
 
 #[cfg(test)]
@@ -25,3 +25,5 @@ mod sources;
 mod stores;
 #[cfg(test)]
 mod texts;
+#[cfg(test)]
+mod trees;

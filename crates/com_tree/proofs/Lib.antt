@@ -1,0 +1,5 @@
+mod Branches
+mod Building
+mod Choices
+mod Searching
+mod Walks

@@ -71,6 +71,10 @@ choice (suc levels) rows first node =
     option_and_then (λ row. choice_by (first_leaf rows node) row.choose first
     (map (choice levels rows first) (children rows node))) (slice_get rows node.row)
 
+-- the number of the first message on a leaf, by a list that has it for each leaf
+abbrev pub head_on : List (Option ℕ) → ℕ → Option ℕ
+head_on heads leaf = unwrap_or (slice_get heads leaf) None
+
 -- NextLeaf: the leaf that the node chooses, where `first` gives the arrival number of the first
 -- message that waits on a leaf; a tree has no more than four levels
 abbrev pub next_leaf : List TreeRow → Node → (ℕ → Option ℕ) → Option Leaf

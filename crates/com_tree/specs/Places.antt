@@ -1,10 +1,11 @@
 -- Nodes and leaves by their places, and their paths.
-use Rattle.std.specs.Prelude.{ℕ, ◌+◌, ◌-◌, List, [], ◌∷◌, ◌++◌, take, drop, Option, option_map, if◌then◌else◌}
+use Rattle.std.specs.Prelude.{ℕ, ◌+◌, ◌-◌, List, [], ◌∷◌, ◌++◌, take, drop, Option, Some, None, option_map, slice_get, if◌then◌else◌}
 use Rattle.std.specs.Cmp.Lexicographic.{pointwise}
 use Rattle.std.specs.List.{position}
 use Rattle.std.specs.Str.{bytes_eq}
 use Rattle.com_tree.specs.declared.tree.TreeRow.{TreeRow}
 use Rattle.com_tree.specs.declared.tree.Node.{Node}
+use Rattle.com_tree.specs.declared.tree.Leaf.{Leaf}
 use Rattle.com_tree.specs.Written.{is_leaf, leaf_count, rows_below, top_count}
 
 -- the path of a node, by that of the node before it: the names above its level, and its own
@@ -40,6 +41,13 @@ first_leaf rows node = leaf_count (take node.row rows)
 -- one past the number of the last leaf under a node
 abbrev pub past_leaf : List TreeRow → Node → ℕ
 past_leaf rows node = first_leaf rows node + leaf_count (branch_of (drop node.row rows))
+
+-- the leaf that a node is
+abbrev pub leaf_at : List TreeRow → Node → Option Leaf
+leaf_at rows node = elim (slice_get rows node.row) [
+  | None ↦ None
+  | Some row ↦ if is_leaf row then Some (record { number = first_leaf rows node }) else None
+]
 
 -- the number of the tree that a node is in
 abbrev pub top_of : List TreeRow → Node → ℕ

@@ -1,7 +1,9 @@
 //! Trees of queues, as they are written.
-ghost use Rattle.std.specs.Prelude.{◌≡◌};
+ghost use Rattle.std.specs.Prelude.{◌≡◌, IfOk};
+ghost use Rattle.com_tree.specs.Written.{is_leaf, IsWritten};
 
 use com_text::{Name, Rows};
+use std::alloc::AllocError;
 use std::marker::Model;
 
 /// How many levels a tree has at most.
@@ -27,6 +29,15 @@ pub struct TreeRow {
     pub name: Name,
     /// None at a leaf.
     pub choose: Option<Choose>,
+}
+
+impl TreeRow {
+    /// Whether the node is a leaf.
+    pub fn is_leaf(&self) -> bool
+        ensures { result ≡ is_leaf self.now }
+    {
+        self.choose.is_none()
+    }
 }
 
 /// A node, by the place of its row, from 0.
@@ -61,9 +72,27 @@ impl Model for Tree {
 }
 
 impl Tree {
+    pub(crate) fn of_rows(rows: Rows<TreeRow>) -> Tree
+        requires { IsWritten rows }
+        ensures { result ≡ rows }
+    {
+        Tree { rows }
+    }
+
+    /// An equal tree. Err if memory runs out.
+    pub fn copy(&self) -> Result<Tree, AllocError>
+        ensures { IfOk result (λ copy. copy ≡ self.now) }
+    {
+        let rows = Vec::from_slice(self.rows.allocator(), self.rows.as_slice())?;
+        Ok(Tree {
+            rows: Rows::of_vec(rows),
+        })
+    }
+
     /// The nodes in preorder.
     pub fn rows(&self) -> &[TreeRow]
-        ensures { result.now ≡ self.now }
+        ensures rows { result.now ≡ self.now }
+        ensures written { IsWritten self.now }
     {
         self.rows.as_slice()
     }

@@ -1,0 +1,6 @@
+use Rattle.std.proofs.Common.{◌≡◌, ◌+◌, take}
+use Rattle.com_tree.proofs.search.path_of.Given as goal
+
+-- the path so far
+abbrev pub invariant-loop-name : goal.invariant-loop-name
+invariant-loop-name l = l.path ≡ take (l.name-index + 1) l.names
