@@ -21,6 +21,6 @@ mod Arriving
 mod Going
 mod Portioned
 mod Giving
-mod Whole
+pub mod Whole
 pub mod Portions
 pub mod Runs

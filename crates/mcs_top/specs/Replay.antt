@@ -9,6 +9,7 @@ use Rattle.mcs_top.specs.declared.script.Reason.TheVariants.{Size, Text, NotYet,
 use Rattle.mcs_top.specs.Files.{file_limit, IsRead, IsUnopened, IsUnreadable, IsUnwritten, HasNoFault}
 use Rattle.mcs_top.specs.Network.{Describes}
 use Rattle.com_state.specs.Histories.{Legal, IsRun}
+use Rattle.com_state.specs.Wholeness.{Whole, InOrder}
 use Rattle.mcs_top.specs.Model.{model_net, model_history}
 use Rattle.mcs_top.specs.Journal.{IsJournal}
 use Rattle.mcs_top.specs.Script.{MakesCallsOf}
@@ -38,7 +39,8 @@ pub record IsNetRead (net_file : List ℕ) (before read : Shown) (net : Net) : T
   pub short : length description ≤ file_limit
   pub described : Describes description net
 
--- SCRIPT was read, and this legal history makes just its calls.
+-- SCRIPT was read, and this legal history makes just its calls. It hands messages out whole and in
+-- order.
 pub record IsScriptDone (script_file : List ℕ) (net : Net) (before read : Shown)
     (history : List Entry) : Type 0 where
   pub script : List ℕ
@@ -47,6 +49,8 @@ pub record IsScriptDone (script_file : List ℕ) (net : Net) (before read : Show
   pub calls : MakesCallsOf script history
   pub legal : Legal (model_net net) (model_history history)
   pub ran : IsRun (model_net net) (model_history history)
+  pub whole : Whole (model_net net) (model_history history)
+  pub in_order : InOrder (model_net net) (model_history history)
 
 -- Both files were read and closed, and all that the store shows else is as before; the journal is
 -- that of the history of the script's calls.

@@ -2,6 +2,7 @@
 ghost use Rattle.std.specs.Prelude.{◌≡◌, ◌<◌, ◌≤◌, ◌∷◌, length, IfOk, IfErr, OnOk};
 ghost use Rattle.std.specs.List.{position, position_or_len};
 ghost use Rattle.com_state.specs.Histories.{Legal, IsRun};
+ghost use Rattle.com_state.specs.Wholeness.{Whole, InOrder};
 ghost use Rattle.mcs_top.specs.Model.{model_net, model_history};
 ghost use Rattle.mcs_top.specs.SystemState.{state_of, HasSegments};
 ghost use Rattle.mcs_top.specs.Journal.{HaveTexts};
@@ -56,6 +57,9 @@ pub fn perform(alloc: Global, net: &Net, script: &[u8]) -> Result<Rows<Entry>, S
     ensures short { OnOk result (length script.now ≤ file_limit) }
     ensures legal { IfOk result (λ history. Legal (model_net net.now) (model_history history)) }
     ensures ran { IfOk result (λ history. IsRun (model_net net.now) (model_history history)) }
+    ensures whole { IfOk result (λ history. Whole (model_net net.now) (model_history history)) }
+    ensures in_order { IfOk result
+        (λ history. InOrder (model_net net.now) (model_history history)) }
     ensures texts { IfOk result HaveTexts }
     ensures silent { IfOk result (IsSilent net.now) }
     ensures refused { IfErr result (TellsRefusedLine net.now script.now) }
