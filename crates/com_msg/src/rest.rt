@@ -77,6 +77,13 @@ impl Rest {
         self.message.source
     }
 
+    /// The number of the message among all arrivals.
+    pub fn arrival(&self) -> u64
+        ensures { result ≡ self.now.arrival }
+    {
+        self.message.arrival
+    }
+
     /// When the message was recognised as whole.
     pub fn stamp(&self) -> Stamp
         ensures { result ≡ self.now.stamp }

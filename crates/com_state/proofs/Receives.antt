@@ -79,15 +79,8 @@ changed_receive S name unit area kind size no_data number = elim (option_cases (
 ]
 
 -- RECEIVE leaves the units
-units_next : (S : State) (unit : ℕ) (area : List ℕ) (kind : Kind) (size : ℕ) (found : Option Next) → (receive_next S unit area kind size found).1.units ≡ S.units
-units_next S unit area kind size None = refl
-units_next S unit area kind size (Some next) = refl
-
 units_receive : (S : State) (unit : ℕ) (area : List ℕ) (kind : Kind) (size : ℕ) → (receive S unit area kind size).1.units ≡ S.units
-units_receive S unit area kind size = elim (option_cases (designated S.net area)) [
-  | inl none ↦ rw (none, receive) refl
-  | inr some ↦ rw (some.1, receive) (units_next S unit area kind size (next_rest S unit some.0))
-]
+units_receive S unit area kind size = refl
 
 -- a verb that is done is counted
 pub counted : (S : State) (name : List ℕ) (unit : ℕ) (call : Call) (done : Reply × State) → done.1.units ≡ S.units → (unit_mode S unit ≡ Some stopped → ⊥)

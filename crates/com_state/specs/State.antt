@@ -1,21 +1,11 @@
 -- The one-thread system: its states.
 use Rattle.std.specs.Prelude.{ℕ, Bool, List, [], length, map, replicate, Option, option_map, slice_get}
-use Rattle.com_msg.specs.declared.message.Message.{Message}
 use Rattle.com_msg.specs.declared.rest.Kind.{Kind}
 use Rattle.com_msg.specs.declared.sending.OutSegment.{OutSegment}
 use Rattle.com_msg.specs.declared.sending.OutMessage.{OutMessage}
 use Rattle.com_net.specs.declared.net.Net.{Net}
-
--- a message that waits on a leaf, by the leaf's number
-pub record Waiting : Type 0 where
-  pub leaf : ℕ
-  pub message : Message
-
--- what is left of a message that a unit has begun to receive from a leaf
-pub record Held : Type 0 where
-  pub unit : ℕ
-  pub leaf : ℕ
-  pub rest : Message
+pub use Rattle.com_recv.specs.declared.lists.Waiting.{Waiting}
+pub use Rattle.com_recv.specs.declared.lists.Held.{Held}
 
 -- what a unit has sent to a destination and not yet ended: whole segments, and the text behind them
 pub record Begun : Type 0 where

@@ -1,4 +1,4 @@
-//! Tests of texts, messages, areas, trees and the outside: each public call with ample memory.
+//! Tests of texts, messages, areas, trees, queues and the outside: each public call with ample memory.
 #![tactic(auto)]
 
 #[cfg(test)]
@@ -15,6 +15,8 @@ mod names;
 mod numbers;
 #[cfg(test)]
 mod output_areas;
+#[cfg(test)]
+mod queues;
 #[cfg(test)]
 mod rests;
 #[cfg(test)]

@@ -1,5 +1,5 @@
-mod Branches
-mod Building
+pub mod Branches
+pub mod Building
 mod Choices
 mod Searching
-mod Walks
+pub mod Walks

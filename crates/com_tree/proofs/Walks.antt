@@ -75,7 +75,7 @@ all_nested : (rows : List TreeRow) → is_forest rows ≡ true → is_rest rows 
 all_nested [] forest = refl
 all_nested (row ∷ rows) forest = (both (row.depth == 1) (are_nested row rows) forest).1
 
-first_at_top : (rows : List TreeRow) → is_forest rows ≡ true → IsNext 0 rows
+pub first_at_top : (rows : List TreeRow) → is_forest rows ≡ true → IsNext 0 rows
 first_at_top [] forest = tt
 first_at_top (row ∷ rows) forest =
     let top = (both (row.depth == 1) (are_nested row rows) forest).0 in

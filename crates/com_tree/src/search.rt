@@ -11,7 +11,8 @@ use com_text::{MAX_NAMES, Name, NamePath};
 impl Tree {
     /// How many leaves there are, 1 to 64.
     pub fn leaves(&self) -> u32
-        ensures { result ≡ leaf_count self.now }
+        ensures leaves { result ≡ leaf_count self.now }
+        ensures few { result ≤ 64 }
     {
         count_leaves(self.rows())
     }

@@ -1,0 +1,7 @@
+mod Choosing
+mod Designating
+mod Fields
+mod Handing
+mod Places
+mod Receiving
+mod Taking

@@ -1,0 +1,62 @@
+-- What RECEIVE and ACCEPT MESSAGE COUNT write into an area.
+use Rattle.std.specs.Prelude.{ℕ, min, List, [], ◌∷◌, ◌++◌, length, drop, unwrap_or, slice_get, Some, None, codes}
+use Rattle.com_text.specs.Name.{field_of, spaces}
+use Rattle.com_text.specs.Digits.{in_digits}
+use Rattle.com_msg.specs.declared.message.Message.{Message}
+use Rattle.com_msg.specs.declared.rest.Portion.{Portion}
+use Rattle.com_cd.specs.InputArea.{set_in}
+use Rattle.com_cd.specs.Designation.{path_fields}
+use Rattle.com_cd.specs.Status.{status_bytes}
+use Rattle.com_cd.specs.declared.status.Status.{Status}
+use Rattle.com_cd.specs.declared.status.Status.TheVariants.{S00}
+use Rattle.com_cd.specs.declared.input_area.InField.TheVariants as field
+use Rattle.com_tree.specs.declared.tree.TreeRow.{TreeRow}
+use Rattle.com_tree.specs.Places.{leaf_paths}
+
+-- the area with this status key
+abbrev pub with_status : Status → List ℕ → List ℕ
+with_status status area = set_in field.Status area (status_bytes status)
+
+-- the area with the date, the time and the source of a message
+abbrev pub with_origin : Message → List ℕ → List ℕ
+with_origin message area =
+    let dated = set_in field.Date area message.stamp.date in
+    let timed = set_in field.Time dated message.stamp.time in
+    set_in field.Source timed (field_of message.source)
+
+-- the area with a length, an end key and the status key 00
+abbrev pub with_text : List ℕ → List ℕ → List ℕ → List ℕ
+with_text digits end_key area =
+    let sized = set_in field.Length area digits in
+    with_status S00 (set_in field.EndKey sized end_key)
+
+-- the area that tells of a portion of a message from the leaf with this path; MESSAGE COUNT stays
+abbrev pub given_fields : List (List ℕ) → Message → Portion → List ℕ → List ℕ
+given_fields path message portion area =
+    with_text (in_digits (length portion.text) 4) (portion.end_key ∷ [])
+    (with_origin message (path_fields path ++ drop 48 area))
+
+-- the path of a leaf
+abbrev pub path_of_leaf : List TreeRow → ℕ → List (List ℕ)
+path_of_leaf tree leaf = unwrap_or (slice_get (leaf_paths tree) leaf) []
+
+-- the area that tells of a portion of a message on a leaf
+abbrev pub given_area : List TreeRow → ℕ → Message → Portion → List ℕ → List ℕ
+given_area tree leaf message portion area =
+    given_fields (path_of_leaf tree leaf) message portion area
+
+-- the area after a RECEIVE that found nothing
+abbrev pub no_data_area : List ℕ → List ℕ
+no_data_area area = with_text (codes "0000") (codes "0") area
+
+-- the area after a count: 999999 where more wait
+abbrev pub counted_area : ℕ → List ℕ → List ℕ
+counted_area count area =
+    with_status S00 (set_in field.Count area (in_digits (min count 999999) 6))
+
+-- the field of a level of a path, and spaces where it has no such level
+abbrev pub level_field : List (List ℕ) → ℕ → List ℕ
+level_field path at = elim (slice_get path at) [
+  | None ↦ spaces 12
+  | Some name ↦ field_of name
+]

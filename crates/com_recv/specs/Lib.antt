@@ -1,0 +1,4 @@
+pub mod Queued
+pub mod Areas
+pub mod Receiving
+pub mod Giving

@@ -1,0 +1,110 @@
+//! What RECEIVE and ACCEPT MESSAGE COUNT write into an area.
+ghost use Rattle.std.specs.Prelude.{◌≡◌, ◌<◌, ◌≤◌, ◌++◌, length, drop};
+ghost use Rattle.com_text.specs.Text.{IsText};
+ghost use Rattle.com_text.specs.Digits.{in_digits};
+ghost use Rattle.com_msg.specs.Portion.{IsEndKey};
+ghost use Rattle.com_cd.specs.Designation.{path_fields};
+ghost use Rattle.com_cd.specs.declared.status.Status.TheVariants.{S20};
+ghost use Rattle.com_recv.specs.Areas.{with_status, with_origin, with_text, no_data_area, counted_area, given_fields, level_field};
+
+use com_cd::{InArea, InField, Status};
+use com_msg::{Portion, Rest};
+use com_text::{FIELD_LENGTH, Name, NamePath, digits};
+
+const SPACES: [u8; FIELD_LENGTH] = [b' '; FIELD_LENGTH];
+
+/// The largest number that MESSAGE COUNT tells.
+const MAX_COUNT: usize = 999_999;
+
+/// The area that tells of a portion of a message that came from the leaf with this path.
+pub fn given_area(path: &NamePath, rest: &Rest, portion: &Portion, area: InArea) -> InArea
+    requires short { length portion.now.text < 10000 }
+    requires end_key { IsEndKey portion.now.end_key }
+    ensures { result ≡ given_fields path.now rest.now portion.now area }
+{
+    let area = with_names(path, area);
+    let area = with_origin(rest, area);
+    let length = four_digits(portion.text.as_bytes().len());
+    with_portion(&length, &[portion.end_key], area)
+}
+
+/// The area after a RECEIVE that found nothing.
+pub fn no_data_area(area: InArea) -> InArea
+    ensures { result ≡ no_data_area area }
+{
+    with_portion(b"0000", b"0", area)
+}
+
+/// The area where no node is designated.
+pub fn refused_area(mut area: InArea) -> InArea
+    ensures { result ≡ with_status S20 area }
+{
+    area.set(InField::Status, &Status::S20.bytes());
+    area
+}
+
+/// The area that tells how many messages wait, and 999999 where more do.
+pub fn counted_area(count: usize, mut area: InArea) -> InArea
+    ensures { result ≡ counted_area count area }
+{
+    let mut number = [b'0'; 6];
+    digits(count.min(MAX_COUNT) as u64, &mut number);
+    area.set(InField::Count, &number);
+    area.set(InField::Status, &Status::S00.bytes());
+    area
+}
+
+/// The area with the names of a path, and spaces in the levels below them.
+fn with_names(path: &NamePath, mut area: InArea) -> InArea
+    ensures { result ≡ path_fields path.now ++ drop 48 area }
+{
+    let names = path.names();
+    area.set(InField::Queue, &field_at(names, 0));
+    area.set(InField::Sub1, &field_at(names, 1));
+    area.set(InField::Sub2, &field_at(names, 2));
+    area.set(InField::Sub3, &field_at(names, 3));
+    area
+}
+
+/// The field of the name at a place of a path, and spaces past its end.
+fn field_at(names: &[Name], at: usize) -> [u8; FIELD_LENGTH]
+    ensures field { result ≡ level_field names.now at }
+    ensures width { length result ≡ 12 }
+    ensures text { IsText result }
+{
+    match names.get(at) {
+        Some(name) => name.field(),
+        None => SPACES,
+    }
+}
+
+fn with_origin(rest: &Rest, mut area: InArea) -> InArea
+    ensures { result ≡ with_origin rest.now area }
+{
+    let stamp = rest.stamp();
+    area.set(InField::Date, stamp.date());
+    area.set(InField::Time, stamp.time());
+    area.set(InField::Source, &rest.source().field());
+    area
+}
+
+fn with_portion(length: &[u8; 4], end_key: &[u8; 1], mut area: InArea) -> InArea
+    requires length { IsText length.now }
+    requires end_key { IsText end_key.now }
+    ensures { result ≡ with_text length.now end_key.now area }
+{
+    area.set(InField::Length, length);
+    area.set(InField::EndKey, end_key);
+    area.set(InField::Status, &Status::S00.bytes());
+    area
+}
+
+fn four_digits(n: usize) -> [u8; 4]
+    requires { n < 10000 }
+    ensures digits { result ≡ in_digits n 4 }
+    ensures text { IsText result }
+{
+    let mut bytes = [b'0'; 4];
+    digits(n as u64, &mut bytes);
+    bytes
+}

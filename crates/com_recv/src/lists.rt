@@ -1,0 +1,107 @@
+//! The lists of messages that wait and of rests that are held.
+ghost use Rattle.std.specs.Prelude.{◌≡◌, ◌<◌, ◌≤◌, ◌-◌, ℕ, Some, IfSome, length, slice_get, option_and_then, ◌==◌, ◌&&◌, nat_le, nat_lt, count_by};
+ghost use Rattle.std.specs.List.{find, position, range_with_len, All};
+ghost use Rattle.std.specs.Vec.{vec_len, vec_capacity};
+ghost use Rattle.com_recv.specs.Queued.{first_number, is_held_on, held_on, held_in, without_held, without_unit, holding};
+
+use com_msg::Rest;
+use com_tree::MAX_LEAVES;
+
+/// A message that waits on a leaf.
+#[derive(Debug, Drop)]
+pub struct Waiting {
+    /// The number of the leaf.
+    pub leaf: u32,
+    pub message: Rest,
+}
+
+/// What is left of a message that a unit has begun to receive.
+#[derive(Debug, Drop)]
+pub struct Held {
+    pub unit: u32,
+    /// The number of the leaf that the message came from.
+    pub leaf: u32,
+    pub rest: Rest,
+}
+
+/// The arrival number of the first message on each leaf.
+pub fn heads_of(waiting: &[Waiting]) -> [Option<u64>; MAX_LEAVES as usize]
+    requires { All (λ w. w.leaf < 64) waiting.now }
+    ensures { (leaf : ℕ) → leaf < 64 → slice_get result leaf ≡ Some (first_number waiting.now leaf) }
+{
+    let mut heads = [None; MAX_LEAVES as usize];
+    for message in waiting {
+        let leaf = message.leaf as usize;
+        if heads[leaf].is_none() {
+            heads[leaf] = Some(message.message.arrival());
+        }
+    }
+    heads
+}
+
+/// The place of the message that came first on a leaf.
+pub fn first_on(waiting: &[Waiting], leaf: u32) -> Option<usize>
+    ensures { result ≡ position (λ w. w.leaf == leaf) waiting.now }
+{
+    waiting.iter().position(|message| message.leaf == leaf)
+}
+
+/// How many messages wait on the leaves from one number to before another.
+pub fn count_between(waiting: &[Waiting], first: u32, past: u32) -> usize
+    ensures { result ≡ count_by (λ w. nat_le first w.leaf && nat_lt w.leaf past) waiting.now }
+{
+    waiting
+        .iter()
+        .filter(|message| first <= message.leaf && message.leaf < past)
+        .count()
+}
+
+/// The place of what a unit holds from a leaf.
+fn held_on(held: &[Held], unit: u32, leaf: u32) -> Option<usize>
+    ensures { result ≡ position (is_held_on unit leaf) held.now }
+{
+    held.iter()
+        .position(|rest| rest.unit == unit && rest.leaf == leaf)
+}
+
+/// The place of what a unit holds from the first of some leaves that it holds something from.
+pub fn held_between(held: &[Held], unit: u32, first: u32, past: u32) -> Option<usize>
+    ensures held { option_and_then (slice_get held.now) result
+        ≡ held_in held.now unit (range_with_len first (past - first)) }
+    ensures within { IfSome result (λ at. at < length held.now) }
+{
+    for leaf in first..past {
+        if let Some(at) = held_on(held, unit, leaf) {
+            return Some(at);
+        }
+    }
+    None
+}
+
+/// The unit holds the rest of a message from a leaf, in the place of what it held from there. A
+/// spent rest is dropped.
+pub fn hold(held: &mut Vec<Held>, unit: u32, leaf: u32, rest: Rest)
+    requires room { vec_len held.old < vec_capacity held.old }
+    ensures { held.new.items ≡ holding unit leaf rest held.old.items }
+{
+    release(held, unit, leaf);
+    if !rest.is_spent() {
+        let _ = held.insert(0, Held { unit, leaf, rest });
+    }
+}
+
+/// What a unit holds from a leaf is gone.
+fn release(held: &mut Vec<Held>, unit: u32, leaf: u32)
+    ensures held { held.new.items ≡ without_held unit leaf held.old.items }
+    ensures room { vec_len held.new ≤ vec_len held.old }
+    ensures capacity { vec_capacity held.new ≡ vec_capacity held.old }
+{
+    held.retain(|other| !(other.unit == unit && other.leaf == leaf));
+}
+
+/// What a unit holds is gone.
+pub fn drop_unit(held: &mut Vec<Held>, unit: u32)
+    ensures { held.new.items ≡ without_unit unit held.old.items }
+{
+    held.retain(|rest| rest.unit != unit);
+}

@@ -1,0 +1,240 @@
+//! The queues of a tree: what waits on its leaves, and what units hold of it.
+ghost use Rattle.std.specs.Prelude.{◌≡◌, ◌<◌, ◌≤◌, ◌++◌, ◌∷◌, [], List, length, OnOk, OnErr, IfOk, IfErr, IfSome, is_some, option_map, option_and_then, slice_get};
+ghost use Rattle.com_tree.specs.Written.{leaf_count};
+ghost use Rattle.com_recv.specs.Queued.{designated, chosen_leaf, held_under, without_unit, place_of_choice};
+ghost use Rattle.com_recv.specs.Receiving.{receive, has_data, count};
+
+use crate::areas::{counted_area, no_data_area, refused_area};
+use crate::giving::{give_held, give_waiting};
+use crate::lists::{Held, Waiting, count_between, drop_unit, first_on, heads_of, held_between};
+use com_cd::{Designation, InArea};
+use com_msg::{Kind, Message, Rest};
+use com_text::Text;
+use com_tree::{Leaf, MAX_LEAVES, Node, Tree};
+use std::alloc::{AllocError, AllocFailed, Global};
+use std::marker::Model;
+
+/// What a RECEIVE is given.
+#[derive(Debug, Drop)]
+pub enum Taken {
+    /// The text of a portion.
+    Given(Text),
+    /// The unit holds nothing under the node, and no message waits there.
+    NoData,
+    /// The area designates no node.
+    Unknown,
+}
+
+/// What waits on the leaves of a tree, and what units hold of it. Contracts see both as lists.
+#[derive(Debug, Drop)]
+pub struct Queues {
+    leaves: u32,
+    units: u32,
+    waiting: Vec<Waiting>,
+    held: Vec<Held>,
+}
+
+impl Model for Queues {
+    ghost use Rattle.com_recv.specs.Queued.{Queued, AreOnLeaves};
+
+    ghost Value = { Queued };
+
+    ghost view = { λ queues. record {
+      leaves = queues.leaves;
+      units = queues.units;
+      waiting = queues.waiting.items;
+      held = queues.held.items;
+    } };
+
+    ghost invariant = { λ queues. AreOnLeaves (record {
+      leaves = queues.leaves;
+      units = queues.units;
+      waiting = queues.waiting.items;
+      held = queues.held.items;
+    }) };
+}
+
+impl Queues {
+    /// The queues of a tree for so many units, where nothing waits and nothing is held.
+    pub fn new(alloc: Global, tree: &Tree, units: u32) -> Result<Queues, AllocError>
+        ensures { IfOk result (λ queues. queues ≡ record {
+          leaves = leaf_count tree.now;
+          units = units;
+          waiting = [];
+          held = [];
+        }) }
+    {
+        Ok(Queues {
+            leaves: tree.leaves(),
+            units,
+            waiting: Vec::new(alloc),
+            held: Vec::new(alloc),
+        })
+    }
+
+    /// A message comes to wait on a leaf of the tree, behind all others. Without memory nothing
+    /// changes, and the message is handed back.
+    pub fn put(
+        &mut self,
+        _tree: &Tree,
+        leaf: Leaf,
+        message: Message,
+    ) -> Result<(), (Message, AllocError)>
+        requires tree { leaf_count _tree.now ≡ self.old.leaves }
+        requires leaf { leaf.number < leaf_count _tree.now }
+        requires segments { 1 ≤ length message.segments }
+        ensures ok { OnOk result (self.new ≡ record self.old {
+          waiting = self.old.waiting ++ record { leaf = leaf.number; message = message } ∷ [];
+        }) }
+        ensures err { OnErr result (self.new ≡ self.old) }
+        ensures handed_back { IfErr result (λ refused. refused.0 ≡ message) }
+    {
+        if self.waiting.try_reserve(1).is_err() {
+            return Err((message, AllocError));
+        }
+        let waiting = Waiting {
+            leaf: leaf.number,
+            message: Rest::of(message),
+        };
+        let _ = self.waiting.push(waiting);
+        Ok(())
+    }
+
+    /// RECEIVE of a unit: a portion of at most `size` characters of what the unit holds under the
+    /// designated node, or else of the message that the node chooses. The area tells of it. What is
+    /// left of the message is held by the unit. Without memory nothing changes.
+    pub fn receive(
+        &mut self,
+        tree: &Tree,
+        unit: u32,
+        area: &mut InArea,
+        kind: Kind,
+        size: u32,
+    ) -> Result<Taken, AllocError>
+        requires tree { leaf_count tree.now ≡ self.old.leaves }
+        requires unit { unit < self.old.units }
+        requires size { (1 ≤ size) × (size ≤ 2000) }
+        ensures received { IfOk result (λ taken. (taken, area.new, self.new)
+            ≡ receive tree.now self.old unit area.old kind size) }
+        ensures leaves { self.new.leaves ≡ self.old.leaves }
+        ensures units { self.new.units ≡ self.old.units }
+        ensures err { OnErr result (self.new ≡ self.old) }
+        ensures area_err { OnErr result (area.new ≡ area.old) }
+    {
+        let Some(node) = designated(tree, area) else {
+            *area = refused_area(*area);
+            return Ok(Taken::Unknown);
+        };
+        if let Some(at) = self.held_under(tree, unit, node) {
+            let text = give_held(tree, &mut self.held, at, area, kind, size)?;
+            return Ok(Taken::Given(text));
+        }
+        match self.first_under(tree, node) {
+            Some(at) => {
+                let text = give_waiting(
+                    tree,
+                    &mut self.waiting,
+                    at,
+                    &mut self.held,
+                    unit,
+                    area,
+                    kind,
+                    size,
+                )?;
+                Ok(Taken::Given(text))
+            }
+            None => {
+                *area = no_data_area(*area);
+                Ok(Taken::NoData)
+            }
+        }
+    }
+
+    /// Whether a RECEIVE of the unit that designates a node has something to go on with: a rest that it
+    /// holds, or a message that the node chooses.
+    pub fn has_data(&self, tree: &Tree, unit: u32, node: Node) -> bool
+        requires tree { leaf_count tree.now ≡ self.now.leaves }
+        requires unit { unit < self.now.units }
+        requires node { node.row < length tree.now }
+        ensures { result ≡ has_data tree.now self.now unit node }
+    {
+        self.held_under(tree, unit, node).is_some() || self.choice(tree, node).is_some()
+    }
+
+    /// Whether a node chooses a leaf to take a message from.
+    pub fn has_message(&self, tree: &Tree, node: Node) -> bool
+        requires tree { leaf_count tree.now ≡ self.now.leaves }
+        requires node { node.row < length tree.now }
+        ensures { result ≡ is_some (chosen_leaf tree.now self.now.waiting node) }
+    {
+        self.choice(tree, node).is_some()
+    }
+
+    /// The leaf that a node chooses, by the first message that waits on each leaf.
+    pub fn choice(&self, tree: &Tree, node: Node) -> Option<Leaf>
+        requires tree { leaf_count tree.now ≡ self.now.leaves }
+        requires node { node.row < length tree.now }
+        ensures { option_map (λ leaf. leaf.number) result
+            ≡ chosen_leaf tree.now self.now.waiting node }
+    {
+        let heads = heads_of(&self.waiting);
+        tree.next(node, &heads[..self.leaves as usize])
+    }
+
+    /// ACCEPT MESSAGE COUNT: the area tells how many messages wait under the designated node.
+    pub fn count(&self, tree: &Tree, area: &mut InArea)
+        requires tree { leaf_count tree.now ≡ self.now.leaves }
+        ensures { area.new ≡ count tree.now self.now area.old }
+    {
+        *area = match designated(tree, area) {
+            Some(node) => {
+                let (first, past) = tree.leaves_under(node);
+                counted_area(count_between(&self.waiting, first, past), *area)
+            }
+            None => refused_area(*area),
+        };
+    }
+
+    /// What a unit holds is gone.
+    pub fn drop_unit(&mut self, unit: u32)
+        requires { unit < self.old.units }
+        ensures { self.new ≡ record self.old { held = without_unit unit self.old.held } }
+    {
+        drop_unit(&mut self.held, unit);
+    }
+
+    /// The place of what the unit holds on the first leaf under a node that it holds something
+    /// from.
+    fn held_under(&self, tree: &Tree, unit: u32, node: Node) -> Option<usize>
+        requires node { node.row < length tree.now }
+        ensures held { option_and_then (slice_get self.now.held) result
+            ≡ held_under tree.now self.now.held unit node }
+        ensures within { IfSome result (λ at. at < length self.now.held) }
+    {
+        let (first, past) = tree.leaves_under(node);
+        held_between(&self.held, unit, first, past)
+    }
+
+    /// The place of the message that a node chooses.
+    fn first_under(&self, tree: &Tree, node: Node) -> Option<usize>
+        requires tree { leaf_count tree.now ≡ self.now.leaves }
+        requires node { node.row < length tree.now }
+        ensures { result ≡ place_of_choice tree.now self.now.waiting node }
+    {
+        let leaf = self.choice(tree, node)?;
+        first_on(&self.waiting, leaf.number)
+    }
+}
+
+/// The node that the names of an area designate.
+fn designated(tree: &Tree, area: &InArea) -> Option<Node>
+    ensures node { result ≡ designated tree.now area.now }
+    ensures within { IfSome result (λ node. node.row < length tree.now) }
+{
+    // Its contract tells that the tree is one that may be written.
+    let _ = tree.rows();
+    match area.designation() {
+        Designation::Path(path) => tree.node(&path),
+        Designation::Malformed => None,
+    }
+}
