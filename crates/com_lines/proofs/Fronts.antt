@@ -1,6 +1,5 @@
 -- Lists that begin with another list.
-use Rattle.std.proofs.Common.{◌≡◌, ℕ, ◌≤◌, List, ◌++◌, length, take, arith, ap, refl, sym, ◌∙◌, length-append}
-use Rattle.std.specs.Prelude.{min}
+use Rattle.std.proofs.Common.{◌≡◌, ℕ, ◌≤◌, List, ◌++◌, length, take, arith, ap, refl, sym, ◌∙◌}
 use Rattle.std.proofs.lemmas.List.{take-take, length-take, take_at}
 
 -- what begins with a list that begins with another begins with that one

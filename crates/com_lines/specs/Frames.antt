@@ -1,6 +1,6 @@
 -- The messages of a terminal's input, and its verdict.
 use Rattle.std.specs.Prelude.{ℕ, ◌+◌, ◌<◌, ◌≤◌, ◌≡◌, ◌⊎◌, List, [], ◌∷◌, ◌++◌, length, get_or, take, if◌then◌else◌, Option, Some, None, All}
-use Rattle.std.specs.List.{filter, flat_map}
+use Rattle.std.specs.List.{concat, filter, flat_map}
 use Rattle.com_text.specs.Text.{IsText}
 use Rattle.com_msg.specs.declared.message.End.{End}
 use Rattle.com_msg.specs.declared.message.End.TheVariants.{Emi, Egi}
@@ -83,7 +83,7 @@ abbrev pub Finished : Framing → List ℕ → List RawMessage → Type 0
 Finished framing bytes messages =
     (IsClear framing bytes (length bytes) × AreEnded framing bytes messages)
     ⊎ ((fault : FrameFault) × IsFirstFault framing bytes fault
-        × AreEnded framing (take fault.at bytes) messages)
+    × AreEnded framing (take fault.at bytes) messages)
 
 -- what follows cannot change whether the place is at fault: it is no CR of lines at the end
 abbrev pub IsSettled : Framing → List ℕ → ℕ → Type 0
@@ -95,3 +95,14 @@ IsSettled Lines bytes place =
 pub record IsSettledFault (framing : Framing) (bytes : List ℕ) (fault : FrameFault) : Type 0 where
   pub first_fault : IsFirstFault framing bytes fault
   pub settled : IsSettled framing bytes fault.at
+
+-- a message that marks can frame: within the limits of segments, their number and its characters
+pub record IsWithinLimits (message : RawMessage) : Type 0 where
+  pub some : 1 ≤ length message.segments
+  pub few : length message.segments ≤ 9999
+  pub short : All (λ segment. length segment ≤ 2000) message.segments
+  pub characters : length (concat message.segments) ≤ 9999
+
+-- a message as it is written: its spelling and an LF
+abbrev pub encoded : RawMessage → List ℕ
+encoded message = spelling Marks message ++ 10 ∷ []

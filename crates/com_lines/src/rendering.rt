@@ -8,6 +8,7 @@ use std::alloc::AllocError;
 use std::mem;
 
 const LINE_FEED: u8 = 10;
+
 const FORM_FEED: u8 = 12;
 
 /// Adds the bytes of a message at the end, segment by segment. Err if memory runs out; then nothing
