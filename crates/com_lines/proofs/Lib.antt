@@ -1,5 +1,8 @@
 pub mod Fronts
 pub mod Runs
 pub mod Places
-pub mod Readings
+pub mod OneByte
 pub mod Encoded
+pub mod Stops
+pub mod Takes
+pub mod Pieces

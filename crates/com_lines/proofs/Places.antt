@@ -20,7 +20,7 @@ first-kept : (after more : List ℕ) → 0 < length after → get_or (after ++ m
 first-kept after more h = get_or_append_left after more 0 0 h
 
 -- what is wrong with a byte of lines is settled by the next byte, where it is a CR
-kind_of-lines : (before : List ℕ) (byte : ℕ) (after more : List ℕ) → (byte ≡ 13 → 0 < length after) → kind_of Lines before byte (after ++ more) ≡ kind_of Lines before byte after
+pub kind_of-lines : (before : List ℕ) (byte : ℕ) (after more : List ℕ) → (byte ≡ 13 → 0 < length after) → kind_of Lines before byte (after ++ more) ≡ kind_of Lines before byte after
 kind_of-lines before byte after more h =
     elim (cases_eq byte 13) as (λ _. kind_of Lines before byte (after ++ more) ≡ kind_of Lines before byte after) [
       | inl e ↦ rw (first-kept after more (h e)) refl
@@ -56,29 +56,35 @@ return-right before byte next e f = rw (e, f) refl
 same_place : (i n : ℕ) → i < n + 1 → ¬ (i < n) → i ≡ n
 same_place i n h k = omega arith
 
+-- what stands before one more byte stays free of fault
+pub clear-before : (framing : Framing) (bytes : List ℕ) (byte : ℕ) → IsClearSoFar framing bytes → (HoldsReturn framing bytes → byte ≡ 10)
+    → (i : ℕ) → i < length bytes → kind_at framing (bytes ++ byte ∷ []) i ≡ None
+clear-before Marks bytes byte clear held i lt = kind_at-kept Marks bytes (byte ∷ []) i lt ∙ clear i lt
+clear-before Lines bytes byte clear held i lt =
+    elim (cases_eq (get_or bytes i 0) 13) as (λ _. kind_at Lines (bytes ++ byte ∷ []) i ≡ None) [
+      | inl e ↦ elim (cases_lt (i + 1) (length bytes)) as (λ _. kind_at Lines (bytes ++ byte ∷ []) i ≡ None) [
+        | inl more ↦ kind_at-kept Lines bytes (byte ∷ []) i (lt, λ _. more) ∙ clear i (lt, λ _. more)
+        | inr last ↦
+          let at_end : i + 1 ≡ length bytes = omega arith in
+          let next = held (sym (last_of-get bytes i at_end) ∙ e) in
+          let near : i ≤ length bytes = omega arith in
+          rw (take-append-le i bytes (byte ∷ []) near, get_or_append_left bytes (byte ∷ []) 0 i lt, drop_at bytes (byte ∷ []) (i + 1) (sym at_end)) (return-right (take i bytes) (get_or bytes i 0) byte e next)
+      ]
+      | inr ne ↦ let settled : IsSettled Lines bytes i = (lt, λ e. absurd (ne e)) in kind_at-kept Lines bytes (byte ∷ []) i settled ∙ clear i settled
+    ]
+
 -- one more byte that is right leaves each settled place free of fault
 pub clear-push : (framing : Framing) (bytes : List ℕ) (byte : ℕ) → IsClearSoFar framing bytes → IsRight framing bytes byte → (HoldsReturn framing bytes → byte ≡ 10) → IsClearSoFar framing (bytes ++ byte ∷ [])
 clear-push Marks bytes byte clear right held i h =
     elim (cases_lt i (length bytes)) as (λ _. kind_at Marks (bytes ++ byte ∷ []) i ≡ None) [
-      | inl lt ↦ kind_at-kept Marks bytes (byte ∷ []) i lt ∙ clear i lt
+      | inl lt ↦ clear-before Marks bytes byte clear held i lt
       | inr ge ↦ let e : i ≡ length bytes = omega (arith, length_push bytes byte) in rw e (kind_at-behind Marks bytes byte [] ∙ right)
     ]
 clear-push Lines bytes byte clear right held i h =
     elim (cases_lt i (length bytes)) as (λ _. kind_at Lines (bytes ++ byte ∷ []) i ≡ None) [
-      | inl lt ↦ elim (cases_eq (get_or bytes i 0) 13) as (λ _. kind_at Lines (bytes ++ byte ∷ []) i ≡ None) [
-        | inl e ↦ elim (cases_lt (i + 1) (length bytes)) as (λ _. kind_at Lines (bytes ++ byte ∷ []) i ≡ None) [
-          | inl more ↦ kind_at-kept Lines bytes (byte ∷ []) i (lt, λ _. more) ∙ clear i (lt, λ _. more)
-          | inr last ↦
-              let at_end : i + 1 ≡ length bytes = omega arith in
-              let next = held (sym (last_of-get bytes i at_end) ∙ e) in
-              let near : i ≤ length bytes = omega arith in
-              let nearer : i + 1 ≤ length bytes = omega arith in
-              rw (take-append-le i bytes (byte ∷ []) near, get_or_append_left bytes (byte ∷ []) 0 i lt, drop_at bytes (byte ∷ []) (i + 1) (sym at_end)) (return-right (take i bytes) (get_or bytes i 0) byte e next)
-        ]
-        | inr ne ↦ let settled : IsSettled Lines bytes i = (lt, λ e. absurd (ne e)) in kind_at-kept Lines bytes (byte ∷ []) i settled ∙ clear i settled
-      ]
+      | inl lt ↦ clear-before Lines bytes byte clear held i lt
       | inr ge ↦
-          let e : i ≡ length bytes = omega (arith, h.0, length_push bytes byte) in
-          let plain = λ (cr : byte ≡ 13). let at : get_or (bytes ++ byte ∷ []) i 0 ≡ 13 = rw e (get_or_at bytes byte [] 0 (length bytes) refl ∙ cr) in let long = h.1 at in let no : ⊥ = omega (arith, long, length_push bytes byte) in no in
-          rw e (kind_at-behind Lines bytes byte [] ∙ right plain)
+        let e : i ≡ length bytes = omega (arith, h.0, length_push bytes byte) in
+        let plain = λ (cr : byte ≡ 13). let at : get_or (bytes ++ byte ∷ []) i 0 ≡ 13 = rw e (get_or_at bytes byte [] 0 (length bytes) refl ∙ cr) in let long = h.1 at in let no : ⊥ = omega (arith, long, length_push bytes byte) in no in
+        rw e (kind_at-behind Lines bytes byte [] ∙ right plain)
     ]

@@ -96,6 +96,11 @@ pub record IsSettledFault (framing : Framing) (bytes : List ℕ) (fault : FrameF
   pub first_fault : IsFirstFault framing bytes fault
   pub settled : IsSettled framing bytes fault.at
 
+-- the bytes have a settled fault, and these messages before it
+pub record IsStopped (framing : Framing) (bytes : List ℕ) (given : List RawMessage) (fault : FrameFault) : Type 0 where
+  pub settled : IsSettledFault framing bytes fault
+  pub ended : AreEnded framing (take fault.at bytes) given
+
 -- a message that marks can frame: within the limits of segments, their number and its characters
 pub record IsWithinLimits (message : RawMessage) : Type 0 where
   pub some : 1 ≤ length message.segments

@@ -2,3 +2,4 @@ pub mod Bytes
 pub mod Faults
 pub mod Frames
 pub mod Reads
+pub mod Readings

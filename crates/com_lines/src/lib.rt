@@ -2,7 +2,9 @@
 #![tactic(auto)]
 
 mod encoding;
+mod reading;
 mod rendering;
 
 pub use encoding::encode;
+pub use reading::FeedError;
 pub use rendering::render;
