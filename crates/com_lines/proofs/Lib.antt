@@ -6,3 +6,4 @@ pub mod Encoded
 pub mod Stops
 pub mod Takes
 pub mod Pieces
+pub mod Ends

@@ -126,7 +126,7 @@ end-told Lines byte end h = lines (byte == 10) refl h where
   lines false e g = absurd cc
 
 -- what ends a message of lines is EMI
-end-segments : (framing : Framing) (byte : ℕ) (segments : List (List ℕ)) (text : List ℕ) (end : End) → end_of framing byte ≡ Some end → MayStand framing segments
+pub end-segments : (framing : Framing) (byte : ℕ) (segments : List (List ℕ)) (text : List ℕ) (end : End) → end_of framing byte ≡ Some end → MayStand framing segments
     → HasSegments framing (record { segments = segments ++ text ∷ []; end = end })
 end-segments Marks byte segments text end h alone = omega (arith, length_push segments text)
 end-segments Lines byte segments text end h alone = (rw alone refl, lines (byte == 10) h) where

@@ -1,5 +1,5 @@
 -- What a reading keeps of the bytes that it has had and the messages that it has given.
-use Rattle.std.specs.Prelude.{ℕ, ◌+◌, ◌*◌, ◌≤◌, ◌≡◌, Bool, false, ◌==◌, List, [], ◌∷◌, ◌++◌, length, if◌then◌else◌, Option, Some, None, option_to_list, true}
+use Rattle.std.specs.Prelude.{ℕ, ◌+◌, ◌*◌, ◌<◌, ◌≤◌, ◌≡◌, Bool, not, false, ◌==◌, List, [], ◌∷◌, ◌++◌, length, if◌then◌else◌, Option, Some, None, option_to_list, true}
 use Rattle.std.specs.List.{concat}
 use Rattle.com_text.specs.Text.{IsText}
 use Rattle.com_msg.specs.declared.message.End.{End}
@@ -13,8 +13,8 @@ use Rattle.com_msg.specs.declared.framing.FrameKind.TheVariants.{BadByte, LongSe
 use Rattle.com_lines.specs.declared.reading.Reading.{Reading}
 use Rattle.com_lines.specs.Bytes.{is_ending, last_of}
 use Rattle.com_lines.specs.Faults.{is_bad_byte, is_long_message, is_long_segment, is_too_many}
-use Rattle.com_lines.specs.Frames.{IsStopped}
-use Rattle.com_lines.specs.Reads.{MayStand, Reads}
+use Rattle.com_lines.specs.Frames.{Frames, IsStopped}
+use Rattle.com_lines.specs.Reads.{MayStand, Reads, opened}
 
 -- the message that has not ended has these segments and this text, and the numbers are those of the
 -- bytes and the messages
@@ -77,6 +77,26 @@ IsContinued old piece before new after = (bytes : List ℕ) (given : List RawMes
 abbrev pub IsCutOff : Reading → List ℕ → List RawMessage → List RawMessage → FrameFault → Type 0
 IsCutOff old piece before after fault = (bytes : List ℕ) (given : List RawMessage) → HasRead old bytes given
     → (added : List RawMessage) × (after ≡ before ++ added) × IsStopped old.framing (bytes ++ piece) (given ++ added) fault
+
+-- whether bytes of a message were read that has not ended
+abbrev pub has_open : Reading → Bool
+has_open reading = not (length (opened reading.segments reading.text) == 0)
+
+-- The input may end here: its last byte is no CR of lines, and where a message is open it is a line,
+-- and not one too many.
+pub record CanEnd (reading : Reading) : Type 0 where
+  pub free : holds_return reading ≡ false
+  pub open_line : has_open reading ≡ true → (reading.framing ≡ Lines) × (reading.given < 65536)
+
+-- the bytes are the whole input, it is sound, and the messages that were not given yet were added
+abbrev pub IsWhole : Reading → List RawMessage → List RawMessage → Type 0
+IsWhole reading before after = (bytes : List ℕ) (given : List RawMessage) → HasRead reading bytes given
+    → (added : List RawMessage) × (after ≡ before ++ added) × Frames reading.framing bytes (given ++ added) None
+
+-- the bytes are the whole input, and this is its fault
+abbrev pub IsFaulty : Reading → FrameFault → Type 0
+IsFaulty reading fault = (bytes : List ℕ) (given : List RawMessage) → HasRead reading bytes given
+    → Frames reading.framing bytes given (Some fault)
 
 -- how a byte ends a message, where it does
 abbrev pub end_of : Framing → ℕ → Option End

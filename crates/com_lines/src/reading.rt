@@ -3,7 +3,7 @@ ghost use Rattle.std.specs.Prelude.{◌≡◌, ◌+◌, ◌<◌, ◌≤◌, ◌�
 ghost use Rattle.com_text.specs.Text.{IsText, is_text_byte};
 ghost use Rattle.com_lines.specs.Bytes.{is_between, is_ending, is_skipped};
 ghost use Rattle.com_lines.specs.Faults.{is_bad_byte, is_long_message, is_long_segment, is_too_many};
-ghost use Rattle.com_lines.specs.Readings.{end_of, HasRead, IsContinued, IsCutOff, IsNext, IsSafe, IsStop, holds_return, next_kind, open_message, with_byte, with_character, with_message, with_segment};
+ghost use Rattle.com_lines.specs.Readings.{end_of, has_open, CanEnd, HasRead, IsContinued, IsCutOff, IsFaulty, IsWhole, IsNext, IsSafe, IsStop, holds_return, next_kind, open_message, with_byte, with_character, with_message, with_segment};
 
 use crate::encoding::{BETWEEN, GROUP_END, LINE_FEED, MESSAGE_END};
 use com_msg::{End, FrameFault, FrameKind, Framing, RawMessage};
@@ -136,6 +136,66 @@ impl Reading {
             }
         }
         Ok(())
+    }
+
+    /// Ends the input, and adds the message that its end ends.
+    pub(crate) fn finish(&mut self, messages: &mut Vec<RawMessage>) -> Result<(), FeedError>
+        requires safe { IsSafe self.old }
+        ensures safe { OnOk result (IsSafe self.new) }
+        ensures whole { OnOk result (IsWhole self.old messages.old.items messages.new.items) }
+        ensures fault { (fault : FrameFault) → result ≡ Err (FeedError.Fault fault)
+            → IsFaulty self.old fault }
+        ensures same { OnErr result (messages.new.items ≡ messages.old.items) }
+    {
+        if let Some(fault) = self.end_fault() {
+            return Err(FeedError::Fault(fault));
+        }
+        if !self.has_open() {
+            return Ok(());
+        }
+        match self.end_message(End::Emi) {
+            Ok(message) => add_message(messages, message),
+            Err(error) => Err(FeedError::Memory(error)),
+        }
+    }
+
+    /// The fault of the input, where it ends here: None where it may.
+    fn end_fault(&self) -> Option<FrameFault>
+        requires safe { IsSafe self.now }
+        ensures none { IsNone result → CanEnd self.now }
+        ensures fault { IfSome result (λ fault. IsFaulty self.now fault) }
+    {
+        if self.holds_return() {
+            return Some(FrameFault {
+                at: self.at - 1,
+                kind: FrameKind::BadByte,
+            });
+        }
+        if !self.has_open() {
+            return None;
+        }
+        let at = self.at;
+        match self.framing {
+            Framing::Marks => Some(FrameFault {
+                at,
+                kind: FrameKind::Truncated,
+            }),
+            Framing::Lines if self.given >= MAX_MESSAGES => Some(FrameFault {
+                at,
+                kind: FrameKind::TooMany,
+            }),
+            Framing::Lines => None,
+        }
+    }
+
+    /// Whether bytes of a message were read that has not ended.
+    fn has_open(&self) -> bool
+        ensures { result ≡ has_open self.now }
+    {
+        if self.segments.as_slice().len() > 0 {
+            return true;
+        }
+        self.text.as_slice().len() > 0
     }
 
     /// Reads a byte, and adds the message that it ends.
