@@ -7,3 +7,4 @@ pub mod Stops
 pub mod Takes
 pub mod Pieces
 pub mod Ends
+pub mod Standing

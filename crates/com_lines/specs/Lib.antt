@@ -3,3 +3,4 @@ pub mod Faults
 pub mod Frames
 pub mod Reads
 pub mod Readings
+pub mod Framers

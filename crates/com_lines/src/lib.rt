@@ -2,9 +2,11 @@
 #![tactic(auto)]
 
 mod encoding;
+mod framer;
 mod reading;
 mod rendering;
 
 pub use encoding::encode;
+pub use framer::Framer;
 pub use reading::FeedError;
 pub use rendering::render;
