@@ -1,5 +1,5 @@
 -- What a framer stands for, after each answer.
-use Rattle.std.proofs.Common.{◌≡◌, inl, inr, ◌↔◌, ℕ, ◌+◌, ◌-◌, ◌≤◌, List, [], ◌∷◌, ◌++◌, length, refl, sym, ap, ◌∙◌, arith, Some, Err, Ok}
+use Rattle.std.proofs.Common.{◌≡◌, inl, inr, ◌↔◌, ℕ, ◌+◌, ◌-◌, ◌≤◌, List, [], ◌∷◌, ◌++◌, length, refl, sym, ap, ◌∙◌, arith, Some, None, Err, Ok}
 use Rattle.std.specs.Prelude.{OnOk, Result}
 use Rattle.std.proofs.lemmas.Bool.{cases_eq, cases_order}
 use Rattle.std.proofs.lemmas.List.{append-nil}
@@ -15,10 +15,10 @@ use Rattle.com_lines.specs.declared.framer.State.{State}
 use Rattle.com_lines.specs.declared.framer.State.TheVariants.{Going, Faulted}
 use Rattle.com_lines.specs.Bytes.{last_of}
 use Rattle.com_lines.specs.Faults.{kind_at}
-use Rattle.com_lines.specs.Frames.{Finished, IsFirstFault, IsSettledFault, IsStopped}
+use Rattle.com_lines.specs.Frames.{Finished, Frames, IsFirstFault, IsSettledFault, IsStopped}
 use Rattle.com_lines.specs.Framers.{Framed, IsMemory, StandsFor, StandsIn, state_after}
 use Rattle.com_lines.specs.Reads.{IsClearSoFar, Reads}
-use Rattle.com_lines.specs.Readings.{HasRead, IsContinued, IsCutOff}
+use Rattle.com_lines.specs.Readings.{HasRead, IsContinued, IsCutOff, IsFaulty, IsWhole}
 use Rattle.com_lines.proofs.Ends.{clear-whole}
 use Rattle.com_lines.proofs.Pieces.{stopped-more}
 use Rattle.com_lines.proofs.Stops.{ended-before_return, return-kind}
@@ -124,3 +124,16 @@ again-fault framing reading piece found bytes given h answer is fault =
 pub stands-at : (framing : Framing) (framer : Framed) (state : State) (reading : Reading) (bytes : List ℕ) (given : List RawMessage) → framer.state ≡ state → framer.reading ≡ reading
     → StandsFor framing framer bytes given → StandsIn state framing reading bytes given
 stands-at framing framer state reading bytes given e f h = rw (← e, ← f) h
+
+-- the end of the input
+pub finish-whole : (framing : Framing) (old : Reading) (before after : List RawMessage) (bytes : List ℕ) (given : List RawMessage) → IsWhole old before after → StandsIn Going framing old bytes given
+    → (added : List RawMessage) × (after ≡ before ++ added) × Frames framing bytes (given ++ added) None
+finish-whole framing old before after bytes given whole h =
+    let (added, e, frames) = whole bytes given h.1 in
+    (added, e, rw h.0 at frames)
+
+pub finish-faulty : (framing : Framing) (old : Reading) (fault : FrameFault) (bytes : List ℕ) (given : List RawMessage) → IsFaulty old fault → StandsIn Going framing old bytes given → Frames framing bytes given (Some fault)
+finish-faulty framing old fault bytes given faulty h = rw h.0 at (faulty bytes given h.1)
+
+pub again-faulty : (framing : Framing) (reading : Reading) (fault : FrameFault) (bytes : List ℕ) (given : List RawMessage) → StandsIn (Faulted fault) framing reading bytes given → Frames framing bytes given (Some fault)
+again-faulty framing reading fault bytes given h = (inl h.0.settled.first_fault, h.0.ended)

@@ -1,5 +1,5 @@
 //! Messages of a terminal's input that comes piece by piece.
-ghost use Rattle.std.specs.Prelude.{◌≡◌, ◌↔◌, ℕ, List, [], ◌++◌, Err, IsTrue, None, OnOk, Some};
+ghost use Rattle.std.specs.Prelude.{◌≡◌, ◌↔◌, ℕ, List, [], ◌++◌, Err, IsTrue, None, OnErr, OnOk, Some};
 ghost use Rattle.com_msg.specs.declared.framing.Framing.{Framing};
 ghost use Rattle.com_msg.specs.declared.framing.FrameFault.{FrameFault};
 ghost use Rattle.com_msg.specs.declared.message.RawMessage.{RawMessage};
@@ -90,6 +90,36 @@ impl Framer {
         self.state = state_after(&result);
         result
     }
+
+    /// Ends the input, and adds the messages of all bytes that were not given before. Fault where
+    /// the input is at fault, with its first fault; nothing is added then, and every later call
+    /// answers it. Memory where memory runs out; nothing is added then, and every later call
+    /// answers it. After an Ok no call is to be made.
+    pub fn finish(&mut self, into: &mut Rows<RawMessage>) -> Result<(), FeedError>
+        ensures whole { OnOk result ((framing : Framing) (bytes : List ℕ) (given : List RawMessage)
+            → StandsFor framing self.old bytes given
+            → (added : List RawMessage) × (into.new ≡ into.old ++ added)
+            × Frames framing bytes (given ++ added) None) }
+        ensures fault { (fault : FrameFault) → result ≡ Err (FeedError.Fault fault)
+            → (framing : Framing) (bytes : List ℕ) (given : List RawMessage)
+            → StandsFor framing self.old bytes given → Frames framing bytes given (Some fault) }
+        ensures same { OnErr result (into.new ≡ into.old) }
+        ensures kept { (fault : FrameFault) → result ≡ Err (FeedError.Fault fault)
+            → HasFaulted self.new fault }
+        ensures again { (fault : FrameFault) → HasFaulted self.old fault
+            → result ≡ Err (FeedError.Fault fault) }
+        ensures memory { IsMemory result → WantsMemory self.new }
+        ensures memory_again { WantsMemory self.old → IsMemory result }
+    {
+        match self.state {
+            State::Going => {}
+            State::Faulted(fault) => return Err(FeedError::Fault(fault)),
+            State::NoMemory => return Err(FeedError::Memory(AllocError)),
+        }
+        let result = finish_into(&mut self.reading, into);
+        self.state = state_after(&result);
+        result
+    }
 }
 
 /// How a framer stands after an answer.
@@ -124,6 +154,22 @@ fn feed_into(
     if is_memory(&result) {
         messages.truncate(before);
     }
+    *into = Rows::of_vec(messages);
+    result
+}
+
+/// Ends the input, and adds the message that its end ends.
+fn finish_into(reading: &mut Reading, into: &mut Rows<RawMessage>) -> Result<(), FeedError>
+    requires safe { IsSafe reading.old }
+    ensures safe { OnOk result (IsSafe reading.new) }
+    ensures whole { OnOk result (IsWhole reading.old into.old into.new) }
+    ensures fault { (fault : FrameFault) → result ≡ Err (FeedError.Fault fault)
+        → IsFaulty reading.old fault }
+    ensures same { OnErr result (into.new ≡ into.old) }
+{
+    let alloc = into.allocator();
+    let mut messages = mem::replace(into, Rows::new(alloc)).into_vec();
+    let result = reading.finish(&mut messages);
     *into = Rows::of_vec(messages);
     result
 }
