@@ -65,10 +65,10 @@ clear-before Lines bytes byte clear held i lt =
       | inl e ↦ elim (cases_lt (i + 1) (length bytes)) as (λ _. kind_at Lines (bytes ++ byte ∷ []) i ≡ None) [
         | inl more ↦ kind_at-kept Lines bytes (byte ∷ []) i (lt, λ _. more) ∙ clear i (lt, λ _. more)
         | inr last ↦
-          let at_end : i + 1 ≡ length bytes = omega arith in
-          let next = held (sym (last_of-get bytes i at_end) ∙ e) in
-          let near : i ≤ length bytes = omega arith in
-          rw (take-append-le i bytes (byte ∷ []) near, get_or_append_left bytes (byte ∷ []) 0 i lt, drop_at bytes (byte ∷ []) (i + 1) (sym at_end)) (return-right (take i bytes) (get_or bytes i 0) byte e next)
+            let at_end : i + 1 ≡ length bytes = omega arith in
+            let next = held (sym (last_of-get bytes i at_end) ∙ e) in
+            let near : i ≤ length bytes = omega arith in
+            rw (take-append-le i bytes (byte ∷ []) near, get_or_append_left bytes (byte ∷ []) 0 i lt, drop_at bytes (byte ∷ []) (i + 1) (sym at_end)) (return-right (take i bytes) (get_or bytes i 0) byte e next)
       ]
       | inr ne ↦ let settled : IsSettled Lines bytes i = (lt, λ e. absurd (ne e)) in kind_at-kept Lines bytes (byte ∷ []) i settled ∙ clear i settled
     ]
@@ -84,7 +84,7 @@ clear-push Lines bytes byte clear right held i h =
     elim (cases_lt i (length bytes)) as (λ _. kind_at Lines (bytes ++ byte ∷ []) i ≡ None) [
       | inl lt ↦ clear-before Lines bytes byte clear held i lt
       | inr ge ↦
-        let e : i ≡ length bytes = omega (arith, h.0, length_push bytes byte) in
-        let plain = λ (cr : byte ≡ 13). let at : get_or (bytes ++ byte ∷ []) i 0 ≡ 13 = rw e (get_or_at bytes byte [] 0 (length bytes) refl ∙ cr) in let long = h.1 at in let no : ⊥ = omega (arith, long, length_push bytes byte) in no in
-        rw e (kind_at-behind Lines bytes byte [] ∙ right plain)
+          let e : i ≡ length bytes = omega (arith, h.0, length_push bytes byte) in
+          let plain = λ (cr : byte ≡ 13). let at : get_or (bytes ++ byte ∷ []) i 0 ≡ 13 = rw e (get_or_at bytes byte [] 0 (length bytes) refl ∙ cr) in let long = h.1 at in let no : ⊥ = omega (arith, long, length_push bytes byte) in no in
+          rw e (kind_at-behind Lines bytes byte [] ∙ right plain)
     ]

@@ -33,15 +33,19 @@ finished-lines : (bytes : List ℕ) (given : List RawMessage) (segments : List (
 finished-lines bytes given segments text h =
     elim (cases_eq (last_of bytes) 13) as (λ _. Finished Lines bytes given) [
       | inl held ↦
-        let some = last-return bytes held in
-        let at : length bytes - 1 + 1 ≡ length bytes = omega arith in
-        let wrong : kind_at Lines (bytes ++ []) (length bytes - 1) ≡ Some BadByte = return-kind bytes [] (length bytes - 1) at held (λ e. absurd (omega (arith, e))) in
-        let fault : FrameFault = record { at = length bytes - 1; kind = BadByte } in
-        inr (fault, record {
-          within = omega arith;
-          kind = rw append-nil at wrong;
-          first = λ i before within. h.clear i (within, λ _. omega arith);
-        }, ended-before_return bytes (length bytes - 1) given at held h.ended)
+          let some = last-return bytes held in
+          let at : length bytes - 1 + 1 ≡ length bytes = omega arith in
+          let wrong : kind_at Lines (bytes ++ []) (length bytes - 1) ≡ Some BadByte = return-kind bytes [] (length bytes - 1) at held (λ e. absurd (omega (arith, e))) in
+          let fault : FrameFault = record { at = length bytes - 1; kind = BadByte } in
+          inr (
+            fault,
+            record {
+              within = omega arith;
+              kind = rw append-nil at wrong;
+              first = λ i before within. h.clear i (within, λ _. omega arith);
+            },
+            ended-before_return bytes (length bytes - 1) given at held h.ended,
+          )
       | inr free ↦ inl (clear-whole Lines bytes h.clear free, h.ended)
     ]
 

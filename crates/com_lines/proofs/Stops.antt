@@ -77,13 +77,13 @@ stopped-here framing bytes given segments text byte fault h wrong at held =
       };
       ended = rw (at, take_at bytes (byte ∷ []) (length bytes) refl) h.ended;
     } where
-  wrong_here : (framing : Framing) → kind_of framing bytes byte (10 ∷ []) ≡ Some fault.kind → kind_of framing bytes byte [] ≡ Some fault.kind
-  wrong_here Marks w = w
-  wrong_here Lines w = sym (kind_of-lines bytes byte [] (10 ∷ []) (λ e. absurd (return-free bytes byte fault.kind w e))) ∙ w
+      wrong_here : (framing : Framing) → kind_of framing bytes byte (10 ∷ []) ≡ Some fault.kind → kind_of framing bytes byte [] ≡ Some fault.kind
+      wrong_here Marks w = w
+      wrong_here Lines w = sym (kind_of-lines bytes byte [] (10 ∷ []) (λ e. absurd (return-free bytes byte fault.kind w e))) ∙ w
 
-  settled : (framing : Framing) → kind_of framing bytes byte (10 ∷ []) ≡ Some fault.kind → IsSettled framing (bytes ++ byte ∷ []) (length bytes)
-  settled Marks w = omega (arith, length_push bytes byte)
-  settled Lines w = (omega (arith, length_push bytes byte), λ e. absurd (return-free bytes byte fault.kind w (sym (get_or_at bytes byte [] 0 (length bytes) refl) ∙ e)))
+      settled : (framing : Framing) → kind_of framing bytes byte (10 ∷ []) ≡ Some fault.kind → IsSettled framing (bytes ++ byte ∷ []) (length bytes)
+      settled Marks w = omega (arith, length_push bytes byte)
+      settled Lines w = (omega (arith, length_push bytes byte), λ e. absurd (return-free bytes byte fault.kind w (sym (get_or_at bytes byte [] 0 (length bytes) refl) ∙ e)))
 
 -- what ends before a CR at the end ends in all
 pub ended-before_return : (bytes : List ℕ) (i : ℕ) (given : List RawMessage) → i + 1 ≡ length bytes → last_of bytes ≡ 13 → AreEnded Lines bytes given → AreEnded Lines (take i bytes) given

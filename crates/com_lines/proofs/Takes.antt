@@ -85,9 +85,9 @@ small-between Marks last characters betweens byte b small =
     let (_, few) = or_parts (is_text_byte byte && nat_le 9999 characters) (is_between Marks byte && nat_le 9998 betweens) small in
     let none : nat_le 9998 betweens ≡ false = rw b at few in
     (leb-false 9998 betweens none, rw e (at_most_one (is_ending Marks last)), λ _. tt) where
-  at_most_one : (b : Bool) → (if b then 0 else 1) ≤ 1
-  at_most_one true = omega arith
-  at_most_one false = omega arith
+      at_most_one : (b : Bool) → (if b then 0 else 1) ≤ 1
+      at_most_one true = omega arith
+      at_most_one false = omega arith
 small-between Lines last characters betweens byte b small = absurd cc
 
 pub safe-segment : (reading : Reading) (byte : ℕ) → IsSafe reading → next_kind reading byte ≡ None → is_between reading.framing byte ≡ true → IsSafe (with_byte byte (with_segment reading))

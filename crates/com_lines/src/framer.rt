@@ -60,11 +60,7 @@ impl Framer {
     /// given before. Fault where a fault is settled in the bytes so far, with the first; the
     /// messages before it have been added then, and every later call answers it and adds nothing.
     /// Memory where memory runs out; nothing is added then, and every later call answers it.
-    pub fn feed(
-        &mut self,
-        piece: &[u8],
-        into: &mut Rows<RawMessage>,
-    ) -> Result<(), FeedError>
+    pub fn feed(&mut self, piece: &[u8], into: &mut Rows<RawMessage>) -> Result<(), FeedError>
         ensures stands { (framing : Framing) (bytes : List ℕ) (given : List RawMessage)
             → StandsFor framing self.old bytes given
             → (added : List RawMessage) × (into.new ≡ into.old ++ added)

@@ -6,7 +6,7 @@ mod framer;
 mod reading;
 mod rendering;
 
-pub use encoding::encode;
+pub use encoding::{are_within_limits, encode};
 pub use framer::Framer;
 pub use reading::FeedError;
 pub use rendering::render;

@@ -5,7 +5,7 @@ ghost use Rattle.com_lines.specs.Bytes.{is_between, is_ending, is_skipped};
 ghost use Rattle.com_lines.specs.Faults.{is_bad_byte, is_long_message, is_long_segment, is_too_many};
 ghost use Rattle.com_lines.specs.Readings.{end_of, has_open, CanEnd, HasRead, IsContinued, IsCutOff, IsFaulty, IsWhole, IsNext, IsSafe, IsStop, holds_return, next_kind, open_message, with_byte, with_character, with_message, with_segment};
 
-use crate::encoding::{BETWEEN, GROUP_END, LINE_FEED, MESSAGE_END};
+use crate::encoding::{BETWEEN, GROUP_END, LINE_FEED, MAX_MESSAGE, MAX_SEGMENT, MESSAGE_END};
 use com_msg::{End, FrameFault, FrameKind, Framing, RawMessage};
 use com_text::{Rows, Text, is_text_byte};
 use std::alloc::{AllocError, Global};
@@ -25,10 +25,6 @@ pub enum FeedError {
 
 /// CR, which may stand before LF in lines.
 const RETURN: u8 = 0x0D;
-/// The characters that a segment may have.
-const MAX_SEGMENT: usize = 2000;
-/// The characters that a message may have, and its segments.
-const MAX_MESSAGE: u32 = 9999;
 /// The messages that an input may have.
 const MAX_MESSAGES: u32 = 65536;
 
