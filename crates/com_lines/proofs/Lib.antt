@@ -8,3 +8,4 @@ pub mod Takes
 pub mod Pieces
 pub mod Ends
 pub mod Standing
+pub mod Unique

@@ -57,7 +57,7 @@ finished-read Lines bytes given segments text h = finished-lines bytes given seg
 pub finished-stopped : (framing : Framing) (bytes : List ℕ) (given : List RawMessage) (fault : FrameFault) → IsStopped framing bytes given fault → Finished framing bytes given
 finished-stopped framing bytes given fault h = inr (fault, h.settled.first_fault, h.ended)
 
-same-fault : (fault other : FrameFault) → fault.at ≡ other.at → fault.kind ≡ other.kind → fault ≡ other
+pub same-fault : (fault other : FrameFault) → fault.at ≡ other.at → fault.kind ≡ other.kind → fault ≡ other
 same-fault fault other at kind =
     let first : fault ≡ record { at = other.at; kind = fault.kind } = ap (λ n. record { at = n; kind = fault.kind }) at in
     let second : record { at = other.at; kind = fault.kind } ≡ other = ap (λ k. record { at = other.at; kind = k }) kind in

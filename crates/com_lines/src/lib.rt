@@ -3,10 +3,12 @@
 
 mod encoding;
 mod framer;
+mod laws;
 mod reading;
 mod rendering;
 
 pub use encoding::{are_within_limits, encode};
 pub use framer::Framer;
+pub use laws::one_reading;
 pub use reading::FeedError;
 pub use rendering::render;
