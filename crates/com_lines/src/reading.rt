@@ -31,19 +31,19 @@ const MAX_MESSAGES: u32 = 65536;
 /// What is kept of the bytes that were read.
 #[derive(Debug, Drop)]
 pub(crate) struct Reading {
-    pub(crate) framing: Framing,
+    framing: Framing,
     /// How many bytes were read.
-    pub(crate) at: u64,
+    at: u64,
     /// The last byte, or 0 where there is none.
-    pub(crate) last: u8,
+    last: u8,
     /// How many messages were given.
-    pub(crate) given: u32,
+    given: u32,
     /// How many characters the message has so far.
-    pub(crate) characters: u32,
+    characters: u32,
     /// The segments of the message that have ended.
-    pub(crate) segments: Rows<Text>,
+    segments: Rows<Text>,
     /// The characters of the segment so far.
-    pub(crate) text: Rows<u8>,
+    text: Rows<u8>,
 }
 
 impl Reading {
@@ -65,7 +65,7 @@ impl Reading {
     }
 
     /// Whether the last byte is a CR of lines, of which the next byte decides.
-    pub(crate) fn holds_return(&self) -> bool
+    fn holds_return(&self) -> bool
         ensures { result ≡ holds_return self.now }
     {
         match self.framing {
@@ -93,7 +93,7 @@ impl Reading {
     }
 
     /// The fault that a byte shows which comes next: None where it shows none.
-    pub(crate) fn next_fault(&self, byte: u8) -> Option<FrameFault>
+    fn next_fault(&self, byte: u8) -> Option<FrameFault>
         requires safe { IsSafe self.now }
         ensures right { IsNone result → next_kind self.now byte ≡ None }
         ensures behind_return { IsNone result → holds_return self.now ≡ true → byte ≡ 10 }
@@ -295,7 +295,7 @@ impl Reading {
     }
 
     /// Ends the message, and gives it.
-    pub(crate) fn end_message(&mut self, end: End) -> Result<RawMessage, AllocError>
+    fn end_message(&mut self, end: End) -> Result<RawMessage, AllocError>
         requires few { self.old.given < 65536 }
         requires text { IsText self.old.text }
         ensures message { IfOk result (λ message. message ≡ open_message self.old end) }
@@ -322,10 +322,7 @@ impl Reading {
 }
 
 /// Adds a message at the end. Without memory nothing is added.
-pub(crate) fn add_message(
-    messages: &mut Vec<RawMessage>,
-    message: RawMessage,
-) -> Result<(), FeedError>
+fn add_message(messages: &mut Vec<RawMessage>, message: RawMessage) -> Result<(), FeedError>
     ensures ok { OnOk result (messages.new.items ≡ messages.old.items ++ message ∷ []) }
     ensures err { OnErr result (messages.new.items ≡ messages.old.items) }
     ensures memory { (fault : FrameFault) → result ≢ Err (FeedError.Fault fault) }
