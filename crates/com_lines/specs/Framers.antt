@@ -22,9 +22,6 @@ IsSafeIn Going reading = IsSafe reading
 IsSafeIn (Faulted fault) reading = Unit {0}
 IsSafeIn NoMemory reading = Unit {0}
 
-abbrev pub IsSafeFramer : Framed → Type 0
-IsSafeFramer framer = IsSafeIn framer.state framer.reading
-
 -- no fault and no want of memory so far
 abbrev pub IsGoing : Framed → Type 0
 IsGoing framer = framer.state ≡ Going
@@ -37,6 +34,7 @@ HasFaulted framer fault = framer.state ≡ Faulted fault
 abbrev pub WantsMemory : Framed → Type 0
 WantsMemory framer = framer.state ≡ NoMemory
 
+-- the same by how the framer stands
 abbrev pub StandsIn : State → Framing → Reading → List ℕ → List RawMessage → Type 0
 StandsIn Going framing reading bytes given =
     (reading.framing ≡ framing) × HasRead reading bytes given × Finished framing bytes given
