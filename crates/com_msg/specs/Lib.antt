@@ -1,3 +1,4 @@
 pub mod Places
 pub mod Portion
+pub mod Rendering
 pub mod Stamp

@@ -1,4 +1,5 @@
-//! Tests of texts, messages, areas, trees, queues and the outside: each public call with ample memory.
+//! Tests of texts, messages, framing, areas, trees, queues and the outside: each public call with
+//! ample memory.
 #![tactic(auto)]
 
 #[cfg(test)]
@@ -7,6 +8,8 @@ mod areas;
 mod folders;
 #[cfg(test)]
 mod frames;
+#[cfg(test)]
+mod lines;
 #[cfg(test)]
 mod messages;
 #[cfg(test)]

@@ -1,0 +1,12 @@
+use Rattle.std.proofs.Common.{◌≡◌, length, take}
+use Rattle.com_lines.specs.Readings.{IsContinued, IsSafe}
+use Rattle.com_lines.proofs.reading.Reading.feed.Given as goal
+
+-- the piece was read up to here, and the messages that it ends were added
+abbrev pub invariant-loop-byte : goal.invariant-loop-byte
+invariant-loop-byte l = record {
+  safe : IsSafe l.self;
+  framing : l.self.framing ≡ l.fn.self.framing;
+  continued : IsContinued l.fn.self (take l.byte-index l.piece) l.fn.messages.items l.self l.messages.items;
+  front : take (length l.fn.messages.items) l.messages.items ≡ l.fn.messages.items;
+}

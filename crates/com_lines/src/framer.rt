@@ -1,0 +1,178 @@
+//! Messages of a terminal's input that comes piece by piece.
+ghost use Rattle.std.specs.Prelude.{◌≡◌, ◌↔◌, ℕ, List, [], ◌++◌, Err, IsTrue, None, OnErr, OnOk, Some};
+ghost use Rattle.com_msg.specs.declared.framing.Framing.{Framing};
+ghost use Rattle.com_msg.specs.declared.framing.FrameFault.{FrameFault};
+ghost use Rattle.com_msg.specs.declared.message.RawMessage.{RawMessage};
+ghost use Rattle.com_lines.specs.Frames.{Frames, IsSettledFault};
+ghost use Rattle.com_lines.specs.Framers.{HasFaulted, IsGoing, IsMemory, StandsFor, WantsMemory, state_after};
+ghost use Rattle.com_lines.specs.Readings.{IsContinued, IsCutOff, IsFaulty, IsSafe, IsWhole};
+
+use crate::FeedError;
+use crate::reading::Reading;
+use com_msg::{FrameFault, Framing, RawMessage};
+use com_text::Rows;
+use std::alloc::{AllocError, Global};
+use std::marker::Model;
+use std::mem;
+
+/// Finds the messages of a terminal's input, which comes piece by piece. It keeps no bytes but
+/// those of the message that has not ended.
+#[derive(Debug, Drop)]
+pub struct Framer {
+    state: State,
+    reading: Reading,
+}
+
+/// How a framer stands.
+#[derive(Clone, Copy, Debug)]
+enum State {
+    /// It goes on.
+    Going,
+    /// The bytes are at fault.
+    Faulted(FrameFault),
+    /// Memory ran out.
+    NoMemory,
+}
+
+impl Model for Framer {
+    ghost use Rattle.com_lines.specs.Framers.{Framed, IsSafeIn};
+
+    ghost Value = { Framed };
+
+    ghost view = { λ framer. record { state = framer.state; reading = framer.reading } };
+
+    ghost invariant = { λ framer. IsSafeIn framer.state framer.reading };
+}
+
+impl Framer {
+    /// A framer that has had no bytes.
+    pub fn new(alloc: Global, framing: Framing) -> Framer
+        ensures stands { StandsFor framing result [] [] }
+        ensures going { IsGoing result }
+    {
+        Framer {
+            state: State::Going,
+            reading: Reading::new(alloc, framing),
+        }
+    }
+
+    /// Takes the next piece, and adds the messages that the bytes so far finish and that were not
+    /// given before. Fault where a fault is settled in the bytes so far, with the first; the
+    /// messages before it have been added then, and every later call answers it and adds nothing.
+    /// Memory where memory runs out; nothing is added then, and every later call answers it.
+    pub fn feed(&mut self, piece: &[u8], into: &mut Rows<RawMessage>) -> Result<(), FeedError>
+        ensures stands { (framing : Framing) (bytes : List ℕ) (given : List RawMessage)
+            → StandsFor framing self.old bytes given
+            → (added : List RawMessage) × (into.new ≡ into.old ++ added)
+            × StandsFor framing self.new (bytes ++ piece.now) (given ++ added) }
+        ensures going { OnOk result (IsGoing self.new) }
+        ensures fault { (framing : Framing) (bytes : List ℕ) (given : List RawMessage)
+            → StandsFor framing self.old bytes given
+            → (fault : FrameFault) → ¬ IsMemory result
+            → (result ≡ Err (FeedError.Fault fault)) ↔ IsSettledFault framing (bytes ++ piece.now) fault }
+        ensures kept { (fault : FrameFault) → result ≡ Err (FeedError.Fault fault)
+            → HasFaulted self.new fault }
+        ensures again { (fault : FrameFault) → HasFaulted self.old fault
+            → (result ≡ Err (FeedError.Fault fault)) × (into.new ≡ into.old) }
+        ensures memory { IsMemory result → WantsMemory self.new × (into.new ≡ into.old) }
+        ensures memory_again { WantsMemory self.old → IsMemory result }
+    {
+        match self.state {
+            State::Going => {}
+            State::Faulted(fault) => return Err(FeedError::Fault(fault)),
+            State::NoMemory => return Err(FeedError::Memory(AllocError)),
+        }
+        let result = feed_into(&mut self.reading, piece, into);
+        self.state = state_after(&result);
+        result
+    }
+
+    /// Ends the input, and adds the messages of all bytes that were not given before. Fault where
+    /// the input is at fault, with its first fault; nothing is added then, and every later call
+    /// answers it. Memory where memory runs out; nothing is added then, and every later call
+    /// answers it. After an Ok no call is to be made.
+    pub fn finish(&mut self, into: &mut Rows<RawMessage>) -> Result<(), FeedError>
+        ensures whole { OnOk result ((framing : Framing) (bytes : List ℕ) (given : List RawMessage)
+            → StandsFor framing self.old bytes given
+            → (added : List RawMessage) × (into.new ≡ into.old ++ added)
+            × Frames framing bytes (given ++ added) None) }
+        ensures fault { (fault : FrameFault) → result ≡ Err (FeedError.Fault fault)
+            → (framing : Framing) (bytes : List ℕ) (given : List RawMessage)
+            → StandsFor framing self.old bytes given → Frames framing bytes given (Some fault) }
+        ensures same { OnErr result (into.new ≡ into.old) }
+        ensures kept { (fault : FrameFault) → result ≡ Err (FeedError.Fault fault)
+            → HasFaulted self.new fault }
+        ensures again { (fault : FrameFault) → HasFaulted self.old fault
+            → result ≡ Err (FeedError.Fault fault) }
+        ensures memory { IsMemory result → WantsMemory self.new }
+        ensures memory_again { WantsMemory self.old → IsMemory result }
+    {
+        match self.state {
+            State::Going => {}
+            State::Faulted(fault) => return Err(FeedError::Fault(fault)),
+            State::NoMemory => return Err(FeedError::Memory(AllocError)),
+        }
+        let result = finish_into(&mut self.reading, into);
+        self.state = state_after(&result);
+        result
+    }
+}
+
+/// How a framer stands after an answer.
+fn state_after(answer: &Result<(), FeedError>) -> State
+    ensures { result ≡ state_after answer.now }
+{
+    match answer {
+        Ok(()) => State::Going,
+        Err(FeedError::Fault(fault)) => State::Faulted(*fault),
+        Err(FeedError::Memory(_)) => State::NoMemory,
+    }
+}
+
+/// Reads a piece, and adds the messages that it ends. Without memory nothing is added.
+fn feed_into(
+    reading: &mut Reading,
+    piece: &[u8],
+    into: &mut Rows<RawMessage>,
+) -> Result<(), FeedError>
+    requires safe { IsSafe reading.old }
+    ensures safe { OnOk result (IsSafe reading.new) }
+    ensures framing { OnOk result (reading.new.framing ≡ reading.old.framing) }
+    ensures continued { OnOk result (IsContinued reading.old piece.now into.old reading.new into.new) }
+    ensures fault { (fault : FrameFault) → result ≡ Err (FeedError.Fault fault)
+        → IsCutOff reading.old piece.now into.old into.new fault }
+    ensures memory { IsMemory result → into.new ≡ into.old }
+{
+    let alloc = into.allocator();
+    let mut messages = mem::replace(into, Rows::new(alloc)).into_vec();
+    let before = messages.len();
+    let result = reading.feed(piece, &mut messages);
+    if is_memory(&result) {
+        messages.truncate(before);
+    }
+    *into = Rows::of_vec(messages);
+    result
+}
+
+/// Ends the input, and adds the message that its end ends.
+fn finish_into(reading: &mut Reading, into: &mut Rows<RawMessage>) -> Result<(), FeedError>
+    requires safe { IsSafe reading.old }
+    ensures safe { OnOk result (IsSafe reading.new) }
+    ensures whole { OnOk result (IsWhole reading.old into.old into.new) }
+    ensures fault { (fault : FrameFault) → result ≡ Err (FeedError.Fault fault)
+        → IsFaulty reading.old fault }
+    ensures same { OnErr result (into.new ≡ into.old) }
+{
+    let alloc = into.allocator();
+    let mut messages = mem::replace(into, Rows::new(alloc)).into_vec();
+    let result = reading.finish(&mut messages);
+    *into = Rows::of_vec(messages);
+    result
+}
+
+/// Whether an answer is want of memory.
+fn is_memory(answer: &Result<(), FeedError>) -> bool
+    ensures { IsTrue result ↔ IsMemory answer.now }
+{
+    matches!(answer, Err(FeedError::Memory(_)))
+}

@@ -1,0 +1,397 @@
+//! Reading a terminal's input byte by byte.
+ghost use Rattle.std.specs.Prelude.{◌≡◌, ◌+◌, ◌<◌, ◌≤◌, ◌≢◌, ◌^◌, [], ◌∷◌, ◌++◌, IfOk, IfSome, IfNone, IsNone, IsTrue, None, OnErr, OnOk, Err, Some, length, take, true};
+ghost use Rattle.com_text.specs.Text.{IsText, is_text_byte};
+ghost use Rattle.com_lines.specs.Bytes.{is_between, is_ending, is_skipped};
+ghost use Rattle.com_lines.specs.Faults.{is_bad_byte, is_long_message, is_long_segment, is_too_many};
+ghost use Rattle.com_lines.specs.Readings.{end_of, has_open, CanEnd, HasRead, IsContinued, IsCutOff, IsFaulty, IsWhole, IsNext, IsSafe, IsStop, holds_return, next_kind, open_message, with_byte, with_character, with_message, with_segment};
+
+use crate::encoding::{BETWEEN, GROUP_END, LINE_FEED, MAX_MESSAGE, MAX_SEGMENT, MESSAGE_END};
+use com_msg::{End, FrameFault, FrameKind, Framing, RawMessage};
+use com_text::{Rows, Text, is_text_byte};
+use std::alloc::{AllocError, Global};
+use std::mem;
+use thiserror::Error;
+
+/// Why a framer gives no more messages.
+#[derive(Debug, Drop, Error)]
+pub enum FeedError {
+    /// The bytes are at fault.
+    #[error("the byte at {} is at fault: {:?}", .0.at, .0.kind)]
+    Fault(FrameFault),
+    /// Memory ran out.
+    #[error("memory ran out")]
+    Memory(AllocError),
+}
+
+/// CR, which may stand before LF in lines.
+const RETURN: u8 = 0x0D;
+/// The messages that an input may have.
+const MAX_MESSAGES: u32 = 65536;
+
+/// What is kept of the bytes that were read.
+#[derive(Debug, Drop)]
+pub(crate) struct Reading {
+    framing: Framing,
+    /// How many bytes were read.
+    at: u64,
+    /// The last byte, or 0 where there is none.
+    last: u8,
+    /// How many messages were given.
+    given: u32,
+    /// How many characters the message has so far.
+    characters: u32,
+    /// The segments of the message that have ended.
+    segments: Rows<Text>,
+    /// The characters of the segment so far.
+    text: Rows<u8>,
+}
+
+impl Reading {
+    /// No byte was read.
+    pub(crate) fn new(alloc: Global, framing: Framing) -> Reading
+        ensures safe { IsSafe result }
+        ensures none { HasRead result [] [] }
+        ensures framing { result.framing ≡ framing }
+    {
+        Reading {
+            framing,
+            at: 0,
+            last: 0,
+            given: 0,
+            characters: 0,
+            segments: Rows::new(alloc),
+            text: Rows::new(alloc),
+        }
+    }
+
+    /// Whether the last byte is a CR of lines, of which the next byte decides.
+    fn holds_return(&self) -> bool
+        ensures { result ≡ holds_return self.now }
+    {
+        match self.framing {
+            Framing::Marks => false,
+            Framing::Lines => self.last == RETURN,
+        }
+    }
+
+    /// What is wrong with the byte that comes next. A CR of lines is taken to stand before an LF.
+    fn next_kind(&self, byte: u8) -> Option<FrameKind>
+        ensures { result ≡ next_kind self.now byte }
+    {
+        let betweens = self.segments.as_slice().len();
+        if is_bad_byte(self.framing, self.last, byte) {
+            Some(FrameKind::BadByte)
+        } else if is_long_segment(self.text.as_slice().len(), byte) {
+            Some(FrameKind::LongSegment)
+        } else if is_long_message(self.framing, self.characters, betweens, byte) {
+            Some(FrameKind::LongMessage)
+        } else if is_too_many(self.framing, self.given, byte) {
+            Some(FrameKind::TooMany)
+        } else {
+            None
+        }
+    }
+
+    /// The fault that a byte shows which comes next: None where it shows none.
+    fn next_fault(&self, byte: u8) -> Option<FrameFault>
+        requires safe { IsSafe self.now }
+        ensures right { IsNone result → next_kind self.now byte ≡ None }
+        ensures behind_return { IsNone result → holds_return self.now ≡ true → byte ≡ 10 }
+        ensures fault { IfSome result (λ fault. IsStop self.now byte fault) }
+    {
+        if self.holds_return() && byte != LINE_FEED {
+            return Some(FrameFault {
+                at: self.at - 1,
+                kind: FrameKind::BadByte,
+            });
+        }
+        match self.next_kind(byte) {
+            Some(kind) => Some(FrameFault { at: self.at, kind }),
+            None => None,
+        }
+    }
+
+    /// Reads a piece, and adds the messages that it ends.
+    pub(crate) fn feed(
+        &mut self,
+        piece: &[u8],
+        messages: &mut Vec<RawMessage>,
+    ) -> Result<(), FeedError>
+        requires safe { IsSafe self.old }
+        ensures safe { OnOk result (IsSafe self.new) }
+        ensures framing { OnOk result (self.new.framing ≡ self.old.framing) }
+        ensures continued { OnOk result (IsContinued self.old piece.now messages.old.items
+            self.new messages.new.items) }
+        ensures fault { (fault : FrameFault) → result ≡ Err (FeedError.Fault fault)
+            → IsCutOff self.old piece.now messages.old.items messages.new.items fault }
+        ensures front { take (length messages.old.items) messages.new.items ≡ messages.old.items }
+    {
+        for byte in piece {
+            if let Err(error) = self.feed_byte(*byte, messages) {
+                return Err(error);
+            }
+        }
+        Ok(())
+    }
+
+    /// Ends the input, and adds the message that its end ends.
+    pub(crate) fn finish(&mut self, messages: &mut Vec<RawMessage>) -> Result<(), FeedError>
+        requires safe { IsSafe self.old }
+        ensures safe { OnOk result (IsSafe self.new) }
+        ensures whole { OnOk result (IsWhole self.old messages.old.items messages.new.items) }
+        ensures fault { (fault : FrameFault) → result ≡ Err (FeedError.Fault fault)
+            → IsFaulty self.old fault }
+        ensures same { OnErr result (messages.new.items ≡ messages.old.items) }
+    {
+        if let Some(fault) = self.end_fault() {
+            return Err(FeedError::Fault(fault));
+        }
+        if !self.has_open() {
+            return Ok(());
+        }
+        match self.end_message(End::Emi) {
+            Ok(message) => add_message(messages, message),
+            Err(error) => Err(FeedError::Memory(error)),
+        }
+    }
+
+    /// The fault of the input, where it ends here: None where it may.
+    fn end_fault(&self) -> Option<FrameFault>
+        requires safe { IsSafe self.now }
+        ensures none { IsNone result → CanEnd self.now }
+        ensures fault { IfSome result (λ fault. IsFaulty self.now fault) }
+    {
+        if self.holds_return() {
+            return Some(FrameFault {
+                at: self.at - 1,
+                kind: FrameKind::BadByte,
+            });
+        }
+        if !self.has_open() {
+            return None;
+        }
+        let at = self.at;
+        match self.framing {
+            Framing::Marks => Some(FrameFault {
+                at,
+                kind: FrameKind::Truncated,
+            }),
+            Framing::Lines if self.given >= MAX_MESSAGES => Some(FrameFault {
+                at,
+                kind: FrameKind::TooMany,
+            }),
+            Framing::Lines => None,
+        }
+    }
+
+    /// Whether bytes of a message were read that has not ended.
+    fn has_open(&self) -> bool
+        ensures { result ≡ has_open self.now }
+    {
+        if self.segments.as_slice().len() > 0 {
+            return true;
+        }
+        self.text.as_slice().len() > 0
+    }
+
+    /// Reads a byte, and adds the message that it ends.
+    fn feed_byte(&mut self, byte: u8, messages: &mut Vec<RawMessage>) -> Result<(), FeedError>
+        requires safe { IsSafe self.old }
+        ensures safe { OnOk result (IsSafe self.new) }
+        ensures framing { OnOk result (self.new.framing ≡ self.old.framing) }
+        ensures continued { OnOk result (IsContinued self.old (byte ∷ []) messages.old.items
+            self.new messages.new.items) }
+        ensures fault { (fault : FrameFault) → result ≡ Err (FeedError.Fault fault)
+            → IsStop self.old byte fault }
+        ensures same { OnErr result (messages.new.items ≡ messages.old.items) }
+        ensures front { take (length messages.old.items) messages.new.items ≡ messages.old.items }
+    {
+        match self.step(byte) {
+            Ok(Some(message)) => add_message(messages, message),
+            Ok(None) => Ok(()),
+            Err(error) => Err(error),
+        }
+    }
+
+    /// Reads a byte, and gives the message that it ends.
+    fn step(&mut self, byte: u8) -> Result<Option<RawMessage>, FeedError>
+        requires safe { IsSafe self.old }
+        ensures safe { OnOk result (IsSafe self.new) }
+        ensures framing { OnOk result (self.new.framing ≡ self.old.framing) }
+        ensures next { IfOk result (λ message. IsNext self.old byte message self.new) }
+        ensures fault { (fault : FrameFault) → result ≡ Err (FeedError.Fault fault)
+            → IsStop self.old byte fault }
+    {
+        if let Some(fault) = self.next_fault(byte) {
+            return Err(FeedError::Fault(fault));
+        }
+        match self.take_in(byte) {
+            Ok(message) => Ok(message),
+            Err(error) => Err(FeedError::Memory(error)),
+        }
+    }
+
+    /// Takes in a byte that is free of fault, and gives the message that it ends.
+    fn take_in(&mut self, byte: u8) -> Result<Option<RawMessage>, AllocError>
+        requires safe { IsSafe self.old }
+        requires right { next_kind self.old byte ≡ None }
+        requires behind_return { holds_return self.old ≡ true → byte ≡ 10 }
+        ensures safe { OnOk result (IsSafe self.new) }
+        ensures framing { OnOk result (self.new.framing ≡ self.old.framing) }
+        ensures next { IfOk result (λ message. IsNext self.old byte message self.new) }
+    {
+        if is_text_byte(byte) {
+            self.add_character(byte)?;
+            return Ok(None);
+        }
+        if is_between(self.framing, byte) {
+            self.end_segment(byte)?;
+            return Ok(None);
+        }
+        match end_of(self.framing, byte) {
+            Some(end) => {
+                let message = self.end_message(end)?;
+                self.pass(byte);
+                Ok(Some(message))
+            }
+            None => {
+                self.pass(byte);
+                Ok(None)
+            }
+        }
+    }
+
+    /// Counts a byte.
+    fn pass(&mut self, byte: u8)
+        requires few { self.old.at < 2 ^ 60 }
+        ensures { self.new ≡ with_byte byte self.old }
+    {
+        self.at += 1;
+        self.last = byte;
+    }
+
+    /// Adds a character to the text.
+    fn add_character(&mut self, byte: u8) -> Result<(), AllocError>
+        requires few { self.old.at < 2 ^ 60 }
+        requires short { self.old.characters ≤ 9999 }
+        ensures { OnOk result (self.new ≡ with_byte byte (with_character byte self.old)) }
+    {
+        self.text.extend_from_slice(&[byte])?;
+        self.characters += 1;
+        self.pass(byte);
+        Ok(())
+    }
+
+    /// Ends the segment.
+    fn end_segment(&mut self, byte: u8) -> Result<(), AllocError>
+        requires few { self.old.at < 2 ^ 60 }
+        requires text { IsText self.old.text }
+        ensures { OnOk result (self.new ≡ with_byte byte (with_segment self.old)) }
+    {
+        let segment = self.take_text();
+        self.segments.push(segment).map_err(|(_, error)| error)?;
+        self.pass(byte);
+        Ok(())
+    }
+
+    /// Ends the message, and gives it.
+    fn end_message(&mut self, end: End) -> Result<RawMessage, AllocError>
+        requires few { self.old.given < 65536 }
+        requires text { IsText self.old.text }
+        ensures message { IfOk result (λ message. message ≡ open_message self.old end) }
+        ensures left { OnOk result (self.new ≡ with_message self.old) }
+    {
+        let segment = self.take_text();
+        self.segments.push(segment).map_err(|(_, error)| error)?;
+        let alloc = self.segments.allocator();
+        let segments = mem::replace(&mut self.segments, Rows::new(alloc));
+        self.characters = 0;
+        self.given += 1;
+        Ok(RawMessage { segments, end })
+    }
+
+    /// Takes the text out.
+    fn take_text(&mut self) -> Text
+        requires text { IsText self.old.text }
+        ensures text { result ≡ self.old.text }
+        ensures left { self.new ≡ record self.old { text = [] } }
+    {
+        let alloc = self.text.allocator();
+        Text::of_vec(mem::replace(&mut self.text, Rows::new(alloc)).into_vec())
+    }
+}
+
+/// Adds a message at the end. Without memory nothing is added.
+fn add_message(messages: &mut Vec<RawMessage>, message: RawMessage) -> Result<(), FeedError>
+    ensures ok { OnOk result (messages.new.items ≡ messages.old.items ++ message ∷ []) }
+    ensures err { OnErr result (messages.new.items ≡ messages.old.items) }
+    ensures memory { (fault : FrameFault) → result ≢ Err (FeedError.Fault fault) }
+{
+    match messages.push(message) {
+        Ok(()) => Ok(()),
+        Err(_) => Err(FeedError::Memory(AllocError)),
+    }
+}
+
+/// Whether the framing does not allow a byte directly behind the last.
+fn is_bad_byte(framing: Framing, last: u8, byte: u8) -> bool
+    ensures { result ≡ is_bad_byte framing last byte 10 }
+{
+    if is_text_byte(byte) {
+        return false;
+    }
+    match framing {
+        Framing::Marks if byte == LINE_FEED => last != MESSAGE_END && last != GROUP_END,
+        Framing::Marks => byte != MESSAGE_END && byte != GROUP_END && byte != BETWEEN,
+        Framing::Lines => byte != LINE_FEED && byte != RETURN,
+    }
+}
+
+/// Whether a byte stands between two segments.
+fn is_between(framing: Framing, byte: u8) -> bool
+    ensures { result ≡ is_between framing byte }
+{
+    match framing {
+        Framing::Marks => byte == BETWEEN,
+        Framing::Lines => false,
+    }
+}
+
+/// Whether a byte is one more character than a segment may have.
+fn is_long_segment(length: usize, byte: u8) -> bool
+    ensures { result ≡ is_long_segment length byte }
+{
+    is_text_byte(byte) && length >= MAX_SEGMENT
+}
+
+/// Whether a byte is one more character than a message may have, or begins one more segment.
+fn is_long_message(framing: Framing, characters: u32, betweens: usize, byte: u8) -> bool
+    ensures { result ≡ is_long_message framing characters betweens byte }
+{
+    match framing {
+        Framing::Marks => {
+            (is_text_byte(byte) && characters >= MAX_MESSAGE)
+                || (byte == BETWEEN && betweens as u64 >= u64::from(MAX_MESSAGE) - 1)
+        }
+        Framing::Lines => false,
+    }
+}
+
+/// Whether a byte ends one more message than an input may have.
+fn is_too_many(framing: Framing, given: u32, byte: u8) -> bool
+    ensures { result ≡ is_too_many framing given byte }
+{
+    end_of(framing, byte).is_some() && given >= MAX_MESSAGES
+}
+
+/// How a byte ends a message: None where it does not.
+fn end_of(framing: Framing, byte: u8) -> Option<End>
+    ensures { result ≡ end_of framing byte }
+{
+    match framing {
+        Framing::Marks if byte == MESSAGE_END => Some(End::Emi),
+        Framing::Marks if byte == GROUP_END => Some(End::Egi),
+        Framing::Lines if byte == LINE_FEED => Some(End::Emi),
+        _ => None,
+    }
+}
