@@ -91,16 +91,27 @@ const Q1: &[u8; 48] = b"Q1                                              ";
 fn a_message_is_handed_out_in_portions_of_five(rt: HostRuntime) -> Result<(), Fail> {
     let tree = one_queue(rt.alloc())?;
     let mut queues = Queues::new(rt.alloc(), &tree, 1)?;
-    put(&mut queues, &tree, 0, message(rt.alloc(), 1, "ABCDEFGHIJKL")?)?;
+    put(
+        &mut queues,
+        &tree,
+        0,
+        message(rt.alloc(), 1, "ABCDEFGHIJKL")?,
+    )?;
     let mut area = area_of(Q1)?;
     let first = given(queues.receive(&tree, 0, &mut area, Kind::Message, 5)?)?;
     assert_eq!(rt; first.as_bytes(), b"ABCDE".as_slice());
-    assert_eq!(rt; area.as_bytes(), b"Q1                                              74013112345678T1          0005000000000".as_slice());
+    assert_eq!(rt;
+        area.as_bytes(),
+        b"Q1                                              74013112345678T1          0005000000000".as_slice()
+    );
     let second = given(queues.receive(&tree, 0, &mut area, Kind::Message, 5)?)?;
     assert_eq!(rt; second.as_bytes(), b"FGHIJ".as_slice());
     let third = given(queues.receive(&tree, 0, &mut area, Kind::Message, 5)?)?;
     assert_eq!(rt; third.as_bytes(), b"KL".as_slice());
-    assert_eq!(rt; area.as_bytes(), b"Q1                                              74013112345678T1          0002200000000".as_slice());
+    assert_eq!(rt;
+        area.as_bytes(),
+        b"Q1                                              74013112345678T1          0002200000000".as_slice()
+    );
     Ok(())
 }
 
@@ -128,7 +139,10 @@ fn each_unit_goes_on_with_its_own_message(rt: HostRuntime) -> Result<(), Fail> {
     assert!(rt; !queues.has_data(&tree, 0, top));
     let last = queues.receive(&tree, 1, &mut area, Kind::Message, 5)?;
     assert!(rt; matches!(last, Taken::NoData));
-    assert_eq!(rt; area.as_bytes(), b"Q1                                              74013112345678T1          0000000000001".as_slice());
+    assert_eq!(rt;
+        area.as_bytes(),
+        b"Q1                                              74013112345678T1          0000000000001".as_slice()
+    );
     Ok(())
 }
 
@@ -153,7 +167,10 @@ fn a_tree_hands_out_in_its_order(rt: HostRuntime) -> Result<(), Fail> {
     let mut area = north;
     let first = given(queues.receive(&tree, 0, &mut area, Kind::Message, 9)?)?;
     assert_eq!(rt; first.as_bytes(), b"IN B1".as_slice());
-    assert_eq!(rt; area.as_bytes(), b"ORDERS      NORTH       B           B1          74013112345678T1          0005200000000".as_slice());
+    assert_eq!(rt;
+        area.as_bytes(),
+        b"ORDERS      NORTH       B           B1          74013112345678T1          0005200000000".as_slice()
+    );
     let mut area = north;
     let second = given(queues.receive(&tree, 0, &mut area, Kind::Message, 9)?)?;
     assert_eq!(rt; second.as_bytes(), b"IN A1".as_slice());
