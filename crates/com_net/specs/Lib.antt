@@ -1,1 +1,4 @@
+pub mod Parts
 pub mod Network
+pub mod Inside
+pub mod Numbers
