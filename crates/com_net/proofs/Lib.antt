@@ -1,1 +1,2 @@
 mod NameLists
+pub mod OnLiterals

@@ -2,3 +2,11 @@ pub mod Parts
 pub mod Network
 pub mod Inside
 pub mod Numbers
+pub mod Keys
+pub mod Values
+pub mod Places
+pub mod KeyFaults
+pub mod TreeFaults
+pub mod NameFaults
+pub mod Description
+pub mod DescriptionRows

@@ -1,6 +1,15 @@
 //! The network that a description gives.
 #![tactic(auto)]
 
+mod fault;
+mod keys;
 mod net;
+mod rows;
 
+pub use fault::{NetError, NetFault, NetKind};
 pub use net::{Feed, MAX_TERMINALS, MAX_UNITS, Net, Terminal, UnitRow};
+pub use rows::{
+    bad_part, empty_schedule, empty_sub, five_levels, framing_alone, long_password, missing_source,
+    no_document, no_queues, no_table, no_terminals, one_of_each, route_to_nowhere,
+    terminal_and_queue, trees, unknown_keys,
+};
