@@ -93,10 +93,14 @@ abbrev pub bad_password_in : Key → Data → Option (List ℕ)
 bad_password_in key.Password = bad_text is_password
 bad_password_in _ = λ value. None
 
--- the first value that is bad by this, and where in it
+-- where the value at a key is bad by this
+abbrev pub bad_value_at : (Key → Data → Option (List ℕ)) → Place → Key → Option (List ℕ)
+bad_value_at bad place wanted = option_map (λ part. key_path place wanted ++ part)
+    (option_and_then (bad wanted) (value_at wanted place.table))
+
+-- the first value of a table that is bad by this
 abbrev pub bad_value : (Key → Data → Option (List ℕ)) → Place → Option (List ℕ)
-bad_value bad place = first_of (λ wanted. option_map (λ part. key_path place wanted ++ part)
-    (option_and_then (bad wanted) (value_at wanted place.table))) (keys_of place.section)
+bad_value bad place = first_of (bad_value_at bad place) (keys_of place.section)
 
 -- the first key of the table where this holds
 abbrev pub first_key : (Members → Key → Bool) → Place → Option (List ℕ)

@@ -5,7 +5,9 @@ pub mod Numbers
 pub mod Keys
 pub mod Values
 pub mod Places
+pub mod Seen
 pub mod KeyFaults
+pub mod Checks
 pub mod TreeFaults
 pub mod NameFaults
 pub mod Description

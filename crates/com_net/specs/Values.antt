@@ -71,11 +71,15 @@ abbrev pub is_table_array : Data → Bool
 is_table_array (array items) = are_tables items
 is_table_array _ = false
 
--- an array of one to four strings
-abbrev pub is_path : Data → Bool
-is_path (array items) =
+-- one to four strings
+abbrev pub are_steps : Items → Bool
+are_steps items =
     are_strings items
     && (nat_le 1 (length (strings_of items)) && nat_le (length (strings_of items)) 4)
+
+-- an array of one to four strings
+abbrev pub is_path : Data → Bool
+is_path (array items) = are_steps items
 is_path _ = false
 
 -- one of two words

@@ -1,5 +1,6 @@
 //! The tables of a description, and the keys that each has.
 ghost use Rattle.std.specs.Prelude.{◌≡◌};
+ghost use Rattle.com_text.specs.Text.{IsText};
 ghost use Rattle.com_net.specs.Keys.{key_text, keys_of};
 
 /// A kind of table.
@@ -76,7 +77,8 @@ pub fn keys_of(section: Section) -> &'static [Key]
 
 /// A key as it is written.
 pub fn key_text(key: Key) -> &'static str
-    ensures { result.now ≡ key_text key }
+    ensures key { result.now ≡ key_text key }
+    ensures text { IsText result.now }
 {
     match key {
         Key::Version => "version",

@@ -2,9 +2,14 @@
 #![tactic(auto)]
 
 mod fault;
+mod key_faults;
 mod keys;
 mod net;
+mod paths;
+mod places;
 mod rows;
+mod texts;
+mod values;
 
 pub use fault::{NetError, NetFault, NetKind};
 pub use net::{Feed, MAX_TERMINALS, MAX_UNITS, Net, Terminal, UnitRow};
