@@ -1,6 +1,7 @@
 mod Arrays
 mod NameLists
+mod NameSets
 pub mod OnLiterals
-mod Tables
 mod PathTexts
+mod Tables
 mod Walks

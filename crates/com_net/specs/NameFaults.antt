@@ -9,24 +9,38 @@ use Rattle.com_net.specs.declared.keys.Key.TheVariants as key
 use Rattle.com_net.specs.Values.{string_at, tables_at}
 use Rattle.com_net.specs.Places.{Place, key_path}
 
--- an earlier table and a later one may not have one name
-abbrev pub excludes : Section → Section → Bool
-excludes section.Terminal section.Terminal = true
-excludes section.Terminal (section.Queue level) = level == 1
-excludes section.Unit section.Unit = true
-excludes _ _ = false
+abbrev pub is_terminal : Section → Bool
+is_terminal section.Terminal = true
+is_terminal _ = false
 
--- a later table has the name of an earlier one, and may not
-abbrev pub clashes : Place → Place → Bool
-clashes later earlier =
-    excludes earlier.section later.section
-    && bytes_eq (string_at key.Name later.table) (string_at key.Name earlier.table)
+abbrev pub is_unit : Section → Bool
+is_unit section.Unit = true
+is_unit _ = false
 
--- the first of these tables that clashes with one before it
+-- the names of the tables of one kind
+abbrev pub names_of : (Section → Bool) → List Place → List (List ℕ)
+names_of test [] = []
+names_of test (place ∷ places) =
+    if test place.section then string_at key.Name place.table ∷ names_of test places
+    else names_of test places
+
+-- the names that a table may not have, by those of the terminals and of the units before it
+abbrev pub taken : Section → List (List ℕ) → List (List ℕ) → List (List ℕ)
+taken section.Top terminals units = []
+taken section.Terminal terminals units = terminals
+taken (section.Queue level) terminals units = if level == 1 then terminals else []
+taken section.Unit terminals units = units
+
+-- a table has a name that was taken before it
+abbrev pub clashes : Place → List Place → Bool
+clashes place before = list_any (bytes_eq (string_at key.Name place.table))
+    (taken place.section (names_of is_terminal before) (names_of is_unit before))
+
+-- the first of these tables that clashes with those before it
 abbrev pub clash_behind : List Place → List Place → Option (List ℕ)
 clash_behind before [] = None
 clash_behind before (place ∷ places) =
-    if list_any (clashes place) before then Some (key_path place key.Name)
+    if clashes place before then Some (key_path place key.Name)
     else clash_behind (before ++ place ∷ []) places
 
 -- the first table with the name of one before it

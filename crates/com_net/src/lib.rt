@@ -4,6 +4,7 @@
 mod fault;
 mod key_faults;
 mod keys;
+mod name_faults;
 mod net;
 mod paths;
 mod places;
