@@ -1,15 +1,13 @@
 -- Going over a document's tables.
-use Rattle.std.proofs.Common.{◌≡◌, ℕ, zero, suc, ◌+◌, ◌-◌, ◌<◌, ◌≤◌, List, [], ◌∷◌, ◌++◌, map, length, get_or, drop, Some, None, refl, ap, ◌∙◌, arith, append_assoc}
+use Rattle.std.proofs.Common.{◌≡◌, ℕ, zero, suc, ◌+◌, ◌-◌, ◌<◌, ◌≤◌, List, [], ◌∷◌, ◌++◌, length, get_or, drop, Some, None, refl, ap, ◌∙◌, arith, append_assoc}
 use Rattle.std.specs.Prelude.{codes}
 use Rattle.toml.specs.declared.value.Value.{Value}
-use Rattle.toml.specs.Data.{Data, string, integer, float, boolean, datetime, array, table, Items, item, Members, as_table, as_str}
+use Rattle.toml.specs.Data.{Data, string, integer, float, boolean, datetime, array, table, Items, item, Members, as_table}
 use Rattle.toml.specs.View.{view, items_view}
 use Rattle.com_net.specs.declared.keys.Section.TheVariants as section
 use Rattle.com_net.specs.declared.keys.Key.TheVariants as key
-use Rattle.com_net.specs.declared.places.TableAt.{TableAt}
-use Rattle.com_net.specs.Values.{tables_of, tables_at, strings_of}
+use Rattle.com_net.specs.Values.{tables_of, tables_at}
 use Rattle.com_net.specs.Places.{Place, queues_from, below, element}
-use Rattle.com_net.specs.Seen.{seen}
 use Rattle.com_net.proofs.Arrays.{next_item, past_items}
 
 table_here : (value : Data) (items : Items) (content : Members) → as_table value ≡ Some content → tables_of (item value items) ≡ content ∷ tables_of items
@@ -42,39 +40,6 @@ skip_value values at value within is none = ap tables_of (next_item values at va
 
 pub no_tables_left : (values : List Value) (at : ℕ) → length values ≤ at → tables_of (items_view (drop at values)) ≡ []
 no_tables_left values at past = ap tables_of (past_items values at past)
-
-string_here : (value : Data) (items : Items) (text : List ℕ) → as_str value ≡ Some text → strings_of (item value items) ≡ text ∷ strings_of items
-string_here (string x) items text is = let same : x ≡ text = cc in rw same refl
-string_here (integer x) items text is = cc
-string_here (float x) items text is = cc
-string_here (boolean x) items text is = cc
-string_here (datetime x) items text is = cc
-string_here (array x) items text is = cc
-string_here (table x) items text is = cc
-
-no_string_here : (value : Data) (items : Items) → as_str value ≡ None → strings_of (item value items) ≡ strings_of items
-no_string_here (string x) items is = cc
-no_string_here (integer x) items is = refl
-no_string_here (float x) items is = refl
-no_string_here (boolean x) items is = refl
-no_string_here (datetime x) items is = refl
-no_string_here (array x) items is = refl
-no_string_here (table x) items is = refl
-
--- the strings from a place on, where one stands there
-pub next_string : (values : List Value) (at : ℕ) (value : Value) (text : List ℕ) → at < length values → value ≡ get_or values at value → as_str (view value) ≡ Some text
-    → strings_of (items_view (drop at values)) ≡ text ∷ strings_of (items_view (drop (at + 1) values))
-next_string values at value text within is some = ap strings_of (next_item values at value within is) ∙ string_here (view value) (items_view (drop (at + 1) values)) text some
-
--- and where none does
-pub skip_no_string : (values : List Value) (at : ℕ) (value : Value) → at < length values → value ≡ get_or values at value → as_str (view value) ≡ None
-    → strings_of (items_view (drop at values)) ≡ strings_of (items_view (drop (at + 1) values))
-skip_no_string values at value within is none = ap strings_of (next_item values at value within is) ∙ no_string_here (view value) (items_view (drop (at + 1) values)) none
-
--- one more table is seen before the rest
-pub seen_more : (old new : List TableAt) (x : TableAt) (rest : List Place) → new ≡ old ++ x ∷ [] → map seen new ++ rest ≡ map seen old ++ seen x ∷ rest
-seen_more [] new x rest is = rw is refl
-seen_more (y ∷ old) new x rest is = rw is (ap (λ l. seen y ∷ l) (seen_more old (old ++ x ∷ []) x rest refl))
 
 -- queues one after another
 pub next_queue : (levels number : ℕ) (path : List ℕ) (content : Members) (contents : List Members) → 1 ≤ levels
