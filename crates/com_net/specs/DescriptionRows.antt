@@ -146,6 +146,49 @@ no_terminals = version ++ codes "terminal = []\n" ++ q1 ++ echo
 abbrev pub no_table : List ℕ
 no_table = version ++ codes "unit = [{}, 1]\n" ++ printer ++ q1
 
+-- two units of one name, behind one that has the name of a terminal
+abbrev pub two_units : List ℕ
+two_units = version ++ printer ++ q1 ++ codes "[[unit]]\nname = \"P-1\"\nsource = \"p.cob\"\n" ++ echo ++ echo
+
+-- two terminals of one name
+abbrev pub two_terminals : List ℕ
+two_terminals = version ++ printer ++ printer ++ q1 ++ echo
+
+-- two top queues of one name
+abbrev pub two_queues : List ℕ
+two_queues = version ++ printer ++ q1 ++ q1 ++ echo
+
+-- a schedule that leads to no node, behind an empty password
+abbrev pub schedule_to_nowhere : List ℕ
+schedule_to_nowhere =
+    version ++ printer ++ queue_with (codes "Q1") [] ++ echo ++ codes "schedule = [\"Q1\", \"B\"]\n"
+
+-- a file name that begins with a period
+abbrev pub hidden_source : List ℕ
+hidden_source = version ++ printer ++ q1 ++ codes "[[unit]]\nname = \"ECHO\"\nsource = \".cob\"\n"
+
+-- another version
+abbrev pub version_two : List ℕ
+version_two = codes "version = 2\n" ++ printer ++ q1 ++ echo
+
+-- no units
+abbrev pub no_units : List ℕ
+no_units = version ++ codes "unit = []\n" ++ printer ++ q1
+
+-- lines that are not taken in at the beginning
+abbrev pub held_lines : List ℕ
+held_lines =
+    version ++ codes "[[terminal]]\nname = \"T1\"\npassword = \"TPASS\"\ninput = \"t1.in\"\n"
+    ++ codes "framing = \"lines\"\nroute = [\"Q1\"]\ninput-enabled = false\n" ++ q1 ++ echo
+
+abbrev pub held_lines_net : Parts
+held_lines_net = record one_of_each_net {
+  terminals = record t1_to_the_first_leaf {
+    feed = Some (record { file = codes "t1.in"; framing = framing.Lines; leaf = record { number = 0 } });
+    input_on = false;
+  } ∷ [];
+}
+
 -- no document
 abbrev pub no_document : List ℕ
 no_document = codes "version 1"

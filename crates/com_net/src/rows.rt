@@ -6,7 +6,7 @@ ghost use Rattle.std.specs.Prelude.{◌≡◌, Some, codes};
 ghost use Rattle.com_tree.specs.declared.build.TreeFault.TheVariants as tree;
 ghost use Rattle.com_net.specs.declared.fault.NetKind.TheVariants as kind;
 ghost use Rattle.com_net.specs.Description.{net_of, net_fault_of};
-ghost use Rattle.com_net.specs.DescriptionRows.{one_of_each, trees, route_to_nowhere, long_password, missing_source, empty_schedule, framing_alone, unknown_keys, bad_part, terminal_and_queue, five_levels, empty_sub, no_queues, no_terminals, no_table, no_document, one_of_each_net, trees_net};
+ghost use Rattle.com_net.specs.DescriptionRows.{one_of_each, trees, route_to_nowhere, long_password, missing_source, empty_schedule, framing_alone, unknown_keys, bad_part, terminal_and_queue, five_levels, empty_sub, no_queues, no_terminals, no_table, two_units, two_terminals, two_queues, schedule_to_nowhere, hidden_source, version_two, no_units, held_lines, no_document, one_of_each_net, trees_net, held_lines_net};
 
 /// One terminal, one queue and one run unit.
 pub fn one_of_each()
@@ -81,6 +81,46 @@ pub fn no_terminals()
 /// The tables beside an element that is no table are not looked at.
 pub fn no_table()
     ensures { net_fault_of no_table ≡ Some (kind.WrongKind, codes "unit") }
+{}
+
+/// Two units of one name, behind one that has the name of a terminal.
+pub fn two_units()
+    ensures { net_fault_of two_units ≡ Some (kind.TwiceNamed, codes "unit.3.name") }
+{}
+
+/// Two terminals of one name.
+pub fn two_terminals()
+    ensures { net_fault_of two_terminals ≡ Some (kind.TwiceNamed, codes "terminal.2.name") }
+{}
+
+/// Two top queues of one name.
+pub fn two_queues()
+    ensures { net_fault_of two_queues ≡ Some (kind.BadTree tree.TwiceNamed, codes "queue.2") }
+{}
+
+/// A schedule that leads to no node comes before a password.
+pub fn schedule_to_nowhere()
+    ensures { net_fault_of schedule_to_nowhere ≡ Some (kind.BadRoute, codes "unit.1.schedule") }
+{}
+
+/// A file name that begins with a period.
+pub fn hidden_source()
+    ensures { net_fault_of hidden_source ≡ Some (kind.BadName, codes "unit.1.source") }
+{}
+
+/// Another version.
+pub fn version_two()
+    ensures { net_fault_of version_two ≡ Some (kind.WrongKind, codes "version") }
+{}
+
+/// No units.
+pub fn no_units()
+    ensures { net_fault_of no_units ≡ Some (kind.OverLimit, codes "unit") }
+{}
+
+/// Lines that are not taken in at the beginning.
+pub fn held_lines()
+    ensures { net_of held_lines ≡ Some held_lines_net }
 {}
 
 /// No document.
