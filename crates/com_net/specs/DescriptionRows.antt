@@ -158,6 +158,12 @@ two_terminals = version ++ printer ++ printer ++ q1 ++ echo
 abbrev pub two_queues : List ℕ
 two_queues = version ++ printer ++ q1 ++ q1 ++ echo
 
+-- a route to a queue that has another below it
+abbrev pub route_to_inner : List ℕ
+route_to_inner =
+    version ++ terminal_to (codes "[\"Q1\"]") ++ q1
+    ++ codes "choose = \"ordered\"\nsub = [{name = \"A\"}]\n" ++ echo
+
 -- a schedule that leads to no node, behind an empty password
 abbrev pub schedule_to_nowhere : List ℕ
 schedule_to_nowhere =

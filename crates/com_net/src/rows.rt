@@ -6,7 +6,7 @@ ghost use Rattle.std.specs.Prelude.{◌≡◌, Some, codes};
 ghost use Rattle.com_tree.specs.declared.build.TreeFault.TheVariants as tree;
 ghost use Rattle.com_net.specs.declared.fault.NetKind.TheVariants as kind;
 ghost use Rattle.com_net.specs.Description.{net_of, net_fault_of};
-ghost use Rattle.com_net.specs.DescriptionRows.{one_of_each, trees, route_to_nowhere, long_password, missing_source, empty_schedule, framing_alone, unknown_keys, bad_part, terminal_and_queue, five_levels, empty_sub, no_queues, no_terminals, no_table, two_units, two_terminals, two_queues, schedule_to_nowhere, hidden_source, version_two, no_units, held_lines, no_document, one_of_each_net, trees_net, held_lines_net};
+ghost use Rattle.com_net.specs.DescriptionRows.{one_of_each, trees, route_to_nowhere, route_to_inner, long_password, missing_source, empty_schedule, framing_alone, unknown_keys, bad_part, terminal_and_queue, five_levels, empty_sub, no_queues, no_terminals, no_table, two_units, two_terminals, two_queues, schedule_to_nowhere, hidden_source, version_two, no_units, held_lines, no_document, one_of_each_net, trees_net, held_lines_net};
 
 /// One terminal, one queue and one run unit.
 pub fn one_of_each()
@@ -96,6 +96,11 @@ pub fn two_terminals()
 /// Two top queues of one name.
 pub fn two_queues()
     ensures { net_fault_of two_queues ≡ Some (kind.BadTree tree.TwiceNamed, codes "queue.2") }
+{}
+
+/// A route to a queue that has another below it.
+pub fn route_to_inner()
+    ensures { net_fault_of route_to_inner ≡ Some (kind.BadRoute, codes "terminal.1.route") }
 {}
 
 /// A schedule that leads to no node comes before a password.
