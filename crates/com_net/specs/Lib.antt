@@ -1,1 +1,14 @@
+pub mod Parts
 pub mod Network
+pub mod Inside
+pub mod Numbers
+pub mod Keys
+pub mod Values
+pub mod Places
+pub mod Seen
+pub mod KeyFaults
+pub mod Checks
+pub mod TreeFaults
+pub mod NameFaults
+pub mod Description
+pub mod DescriptionRows

@@ -21,7 +21,8 @@ use Rattle.com_state.specs.State.{State, UnitMode, unit_mode, running, stopped, 
 use Rattle.com_state.specs.Queues.{chosen_leaf, leaf_fields, counted_area}
 use Rattle.com_state.specs.Destinations.{send}
 use Rattle.com_state.specs.Switches.{switch_input, switch_output}
-use Rattle.com_state.specs.Steps.{step, unit_step, terminal_step, unit_number, terminal_number, with_reply, verb, with_unit_mode, with_terminal_mode, start, schedule_of, is_running, is_dormant, is_idle, waits_or_sleeps, may_do_verb, may_stop, stop_unit, arrive, arrived_message, feed_of}
+use Rattle.com_net.specs.Numbers.{unit_number, terminal_number}
+use Rattle.com_state.specs.Steps.{step, unit_step, terminal_step, with_reply, verb, with_unit_mode, with_terminal_mode, start, schedule_of, is_running, is_dormant, is_idle, waits_or_sleeps, may_do_verb, may_stop, stop_unit, arrive, arrived_message, feed_of}
 use Rattle.com_state.specs.Wholeness.{arrival_by, handed_by}
 use Rattle.com_state.proofs.Frames.{option_cases, next_if-Some}
 use Rattle.com_state.proofs.Stays.{stay_same, stay_unit_mode, stay_terminal_mode, stay_arrival, mode_set}

@@ -12,7 +12,8 @@ use Rattle.com_events.specs.declared.call.Call.TheVariants as made
 use Rattle.com_events.specs.declared.reply.Reply.{Reply}
 use Rattle.com_state.specs.State.{State, Held, Begun, unit_mode, waiting_for, stopped}
 use Rattle.com_state.specs.Queues.{Next, designated, is_held_on, without_held, with_held, next_rest, receive_next, receive, is_ready}
-use Rattle.com_state.specs.Steps.{step, unit_step, unit_number, with_reply, with_verb, with_unit_mode, receive_running, step_receive, is_waiting_for, is_running, may_do_verb, may_stop}
+use Rattle.com_net.specs.Numbers.{unit_number}
+use Rattle.com_state.specs.Steps.{step, unit_step, with_reply, with_verb, with_unit_mode, receive_running, step_receive, is_waiting_for, is_running, may_do_verb, may_stop}
 use Rattle.com_state.specs.Laws.{rests_of, begun_of}
 use Rattle.com_state.proofs.Frames.{option_cases, next_if-Some, queues_unit_mode, queues_verb}
 

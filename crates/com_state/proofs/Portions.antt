@@ -18,7 +18,8 @@ use Rattle.com_events.specs.declared.reply.Reply.{Reply}
 use Rattle.com_events.specs.declared.reply.Reply.TheVariants.{Started, Given, Arrived}
 use Rattle.com_state.specs.State.{State, unit_mode}
 use Rattle.com_state.specs.Queues.{Next, designated, chosen_leaf, next_rest, receive_next, receive, is_ready}
-use Rattle.com_state.specs.Steps.{step, unit_step, terminal_step, unit_number, terminal_number, with_reply, receive_running, step_receive, is_waiting_for, is_running, is_dormant, may_do_verb, start, schedule_of, feed_of, arrive}
+use Rattle.com_net.specs.Numbers.{unit_number, terminal_number}
+use Rattle.com_state.specs.Steps.{step, unit_step, terminal_step, with_reply, receive_running, step_receive, is_waiting_for, is_running, is_dormant, may_do_verb, start, schedule_of, feed_of, arrive}
 use Rattle.com_state.proofs.Frames.{option_cases, next_if-Some}
 
 -- no more than the first characters are no more than their number

@@ -13,7 +13,8 @@ use Rattle.com_events.specs.declared.reply.Reply.{Reply}
 use Rattle.com_events.specs.declared.reply.Reply.TheVariants.{Given}
 use Rattle.com_state.specs.State.{State, UnitMode, stopped, waiting_for, unit_mode}
 use Rattle.com_state.specs.Queues.{Next, designated, next_rest, receive_next, receive, is_ready, given_area}
-use Rattle.com_state.specs.Steps.{next_if, with_reply, with_verb, with_unit_mode, unit_number, receive_running, step_receive, is_waiting_for, is_running}
+use Rattle.com_net.specs.Numbers.{unit_number}
+use Rattle.com_state.specs.Steps.{next_if, with_reply, with_verb, with_unit_mode, receive_running, step_receive, is_waiting_for, is_running}
 use Rattle.com_state.specs.Wholeness.{handed_by, handed_of}
 use Rattle.com_state.proofs.Frames.{option_cases, next_if-Some}
 use Rattle.com_state.proofs.Stays.{stay_same, stay_verb, stay_unit_mode}

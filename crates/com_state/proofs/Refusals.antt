@@ -29,7 +29,8 @@ use Rattle.com_state.specs.State.{State, unit_mode}
 use Rattle.com_state.specs.Queues.{Next, designated, next_rest, receive_next, receive, is_ready, with_status, counted_area, waiting_under}
 use Rattle.com_state.specs.Destinations.{terminal_with, destinations, known_of, is_unknown, is_on, with_error_key, with_error_keys, error_key, with_out_status, send, send_text, send_status, sent_text, is_nothing}
 use Rattle.com_state.specs.Switches.{switch_input, switch_output, switch_leaves, switch_terminal, switch_outputs, switch_status, is_key, is_key_of}
-use Rattle.com_state.specs.Steps.{step, unit_step, terminal_step, unit_number, terminal_number, with_verb, with_reply, verb, receive_running, step_receive, is_waiting_for, is_running, may_do_verb}
+use Rattle.com_net.specs.Numbers.{unit_number, terminal_number}
+use Rattle.com_state.specs.Steps.{step, unit_step, terminal_step, with_verb, with_reply, verb, receive_running, step_receive, is_waiting_for, is_running, may_do_verb}
 use Rattle.com_state.specs.Laws.{is_refusal, Tells, with_status_alone, ChangesStatusAlone}
 use Rattle.com_state.proofs.Frames.{option_cases, next_if-Some}
 

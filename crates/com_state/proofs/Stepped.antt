@@ -18,7 +18,8 @@ use Rattle.com_state.specs.State.{State, unit_mode, running, waiting_for, holdin
 use Rattle.com_state.specs.Queues.{designated, chosen_leaf, leaf_fields, is_ready, receive, counted_area}
 use Rattle.com_state.specs.Destinations.{send}
 use Rattle.com_state.specs.Switches.{switch_input, switch_output}
-use Rattle.com_state.specs.Steps.{step, unit_step, terminal_step, unit_number, terminal_number, next_if, with_reply, with_verb, verb, with_unit_mode, start, schedule_of, receive_running, step_receive, is_waiting_for, is_running, is_dormant, may_do_verb, may_stop, stop_unit, arrive, feed_of}
+use Rattle.com_net.specs.Numbers.{unit_number, terminal_number}
+use Rattle.com_state.specs.Steps.{step, unit_step, terminal_step, next_if, with_reply, with_verb, verb, with_unit_mode, start, schedule_of, receive_running, step_receive, is_waiting_for, is_running, is_dormant, may_do_verb, may_stop, stop_unit, arrive, feed_of}
 use Rattle.com_state.specs.Laws.{Keeps}
 use Rattle.com_state.proofs.Frames.{option_cases, next_if-Some, same_queues, queues_unit_mode, queues_terminal_mode, queues_verb, queues_arrival}
 use Rattle.com_state.proofs.Kept.{kept_same, kept_chain, kept_receive, kept_send, kept_switch_input, kept_switch_output, unchanged_queues}

@@ -1,6 +1,6 @@
 -- What each call does: the steps of the system.
 use Rattle.std.specs.Prelude.{ℕ, ◌+◌, Bool, true, false, not, ◌&&◌, ◌||◌, ◌==◌, nat_lt, List, [], ◌∷◌, ◌++◌, length, Option, Some, None, is_some, is_none, option_map, option_and_then, slice_get, slice_set, if◌then◌else◌}
-use Rattle.std.specs.List.{filter, position, list_all, range_with_len}
+use Rattle.std.specs.List.{filter, list_all, range_with_len}
 use Rattle.std.specs.Str.{bytes_eq}
 use Rattle.com_msg.specs.Stamp.{Moment}
 use Rattle.com_msg.specs.declared.message.RawMessage.{RawMessage}
@@ -10,6 +10,7 @@ use Rattle.com_msg.specs.declared.rest.Kind.TheVariants.{Message as message_kind
 use Rattle.com_tree.specs.declared.tree.Node.{Node}
 use Rattle.com_net.specs.declared.net.Net.{Net}
 use Rattle.com_net.specs.declared.net.Feed.{Feed}
+use Rattle.com_net.specs.Numbers.{terminal_number, unit_number}
 use Rattle.com_events.specs.declared.call.Party.{Party}
 use Rattle.com_events.specs.declared.call.Party.TheVariants as party
 use Rattle.com_events.specs.declared.call.StopReason.{StopReason}
@@ -24,14 +25,6 @@ use Rattle.com_state.specs.State.{State, Waiting, UnitMode, dormant, running, wa
 use Rattle.com_state.specs.Queues.{designated, chosen_leaf, leaf_fields, is_ready, receive, counted_area}
 use Rattle.com_state.specs.Destinations.{is_on, send}
 use Rattle.com_state.specs.Switches.{switch_input, switch_output}
-
--- the number of the unit of this name
-abbrev pub unit_number : Net → List ℕ → Option ℕ
-unit_number net name = position (λ unit. bytes_eq unit.name name) net.units
-
--- the number of the terminal of this name
-abbrev pub terminal_number : Net → List ℕ → Option ℕ
-terminal_number net name = position (λ terminal. bytes_eq terminal.name name) net.terminals
 
 -- this reply and state, where the test holds, and else undefined
 abbrev pub next_if : Bool → Reply × State → Option (Reply × State)

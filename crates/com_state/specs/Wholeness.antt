@@ -16,7 +16,8 @@ use Rattle.com_events.specs.declared.reply.Reply.TheVariants.{Given}
 use Rattle.com_events.specs.declared.entry.Entry.{Entry}
 use Rattle.com_state.specs.State.{State, stopped, opening, unit_mode}
 use Rattle.com_state.specs.Queues.{Next, designated, next_rest}
-use Rattle.com_state.specs.Steps.{step, unit_number, terminal_number, feed_of}
+use Rattle.com_net.specs.Numbers.{unit_number, terminal_number}
+use Rattle.com_state.specs.Steps.{step, feed_of}
 use Rattle.com_state.specs.Histories.{Legal, LeadsTo}
 
 -- the other list begins with this one

@@ -11,7 +11,8 @@ ghost use Rattle.com_events.specs.declared.reply.Reply.TheVariants as reply;
 ghost use Rattle.com_events.specs.Calls.{IsWellFormed};
 ghost use Rattle.com_cd.specs.declared.status.Status.{Status as StatusOf};
 ghost use Rattle.com_state.specs.State.{State as SystemState};
-ghost use Rattle.com_state.specs.Steps.{step, unit_number};
+ghost use Rattle.com_net.specs.Numbers.{unit_number};
+ghost use Rattle.com_state.specs.Steps.{step};
 ghost use Rattle.com_state.specs.Wholeness.{EveryHistoryIsWhole};
 ghost use Rattle.com_state.specs.Laws.{Keeps, rests_of, begun_of, is_refusal, Tells, ChangesStatusAlone};
 

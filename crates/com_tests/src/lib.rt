@@ -15,6 +15,8 @@ mod messages;
 #[cfg(test)]
 mod names;
 #[cfg(test)]
+mod nets;
+#[cfg(test)]
 mod numbers;
 #[cfg(test)]
 mod output_areas;

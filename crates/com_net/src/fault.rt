@@ -1,0 +1,50 @@
+//! Why a description gives no network.
+use com_text::Text;
+use com_tree::TreeFault;
+use std::alloc::AllocError;
+use thiserror::Error;
+
+/// The kinds of faults of a description, in the order in which they are looked for. But a
+/// description that is too long is `OverLimit` before anything else.
+#[derive(Clone, Copy, Debug, PartialEq, Eq)]
+pub enum NetKind {
+    /// It is no TOML document.
+    NotToml,
+    /// A key that is needed is absent.
+    MissingKey,
+    /// A value is not of its key's kind.
+    WrongKind,
+    /// The table has no such key at this place.
+    UnknownKey,
+    /// A name, a part of a path or a file name is none.
+    BadName,
+    /// Two terminals, two units, or a terminal and a top queue have one name.
+    TwiceNamed,
+    /// The queues are no trees.
+    BadTree(TreeFault),
+    /// A route leads to no leaf, or a schedule to no node.
+    BadRoute,
+    /// A password is none.
+    BadPassword,
+    /// There are too many terminals or units, or none, or the description is too long.
+    OverLimit,
+}
+
+/// The first kind of fault that there is, and its first place.
+#[derive(Debug, Drop)]
+pub struct NetFault {
+    pub kind: NetKind,
+    /// Keys and numbers from 1, joined by periods, as `queue.1.sub.2.choose`.
+    pub path: Text,
+}
+
+/// Why no network was read.
+#[derive(Debug, Drop, Error)]
+pub enum NetError {
+    /// The description is refused.
+    #[error("the description is refused: {0:?}")]
+    Refused(NetFault),
+    /// Memory ran out.
+    #[error("memory ran out")]
+    Memory(AllocError),
+}

@@ -1,0 +1,88 @@
+//! Names that may not stand twice, and how many tables there may be.
+ghost use Rattle.std.specs.Prelude.{◌≡◌, ◌++◌, [], ◌∷◌, false, length, map, option_map, IfOk, if◌then◌else◌};
+ghost use Rattle.std.specs.List.{list_any};
+ghost use Rattle.std.specs.Str.{bytes_eq};
+ghost use Rattle.toml.specs.View.{items_view, table_view};
+ghost use Rattle.com_net.specs.declared.keys.Key.TheVariants as key;
+ghost use Rattle.com_net.specs.Values.{string_at, tables_of};
+ghost use Rattle.com_net.specs.Seen.{seen};
+ghost use Rattle.com_net.specs.NameFaults.{is_terminal, is_unit, taken, twice_named, is_over, over_limit};
+
+use crate::key_faults::key_path;
+use crate::keys::{Key, Section};
+use crate::net::{MAX_TERMINALS, MAX_UNITS};
+use crate::places::TableAt;
+use crate::values::{string_at, tables_at};
+use com_text::Text;
+use indexmap::IndexSet;
+use std::alloc::{AllocError, Global};
+use toml::{Table, Value};
+
+/// The path of the first table with the name of one before it.
+pub fn twice_named(alloc: Global, places: &[TableAt<'_>]) -> Result<Option<Text>, AllocError>
+    ensures { IfOk result (λ found. found ≡ twice_named (map seen places.now)) }
+{
+    let mut terminals = IndexSet::new(alloc);
+    let mut units = IndexSet::new(alloc);
+    for at in places {
+        if clashes(
+            at.section,
+            string_at(Key::Name, at.table),
+            &mut terminals,
+            &mut units,
+        )? {
+            return Ok(Some(key_path(alloc, at, Key::Name)?));
+        }
+    }
+    Ok(None)
+}
+
+/// Whether a name was taken before; else it is taken from now on.
+fn clashes<'a>(
+    section: Section,
+    name: &'a str,
+    terminals: &mut IndexSet<&'a str>,
+    units: &mut IndexSet<&'a str>,
+) -> Result<bool, AllocError>
+    ensures clash { IfOk result (λ clash. clash ≡ list_any (bytes_eq name.now) (taken section
+        (map (λ known. known.now) terminals.old.keys) (map (λ known. known.now) units.old.keys))) }
+    ensures terminals { IfOk result (λ clash. clash ≡ false
+        → map (λ known. known.now) terminals.new.keys ≡ map (λ known. known.now) terminals.old.keys
+        ++ (if is_terminal section then name.now ∷ [] else [])) }
+    ensures units { IfOk result (λ clash. clash ≡ false
+        → map (λ known. known.now) units.new.keys ≡ map (λ known. known.now) units.old.keys
+        ++ (if is_unit section then name.now ∷ [] else [])) }
+{
+    match section {
+        Section::Top => Ok(false),
+        Section::Terminal => Ok(!terminals.insert(name)?),
+        Section::Queue(level) => Ok(level == 1 && terminals.contains(name)),
+        Section::Unit => Ok(!units.insert(name)?),
+    }
+}
+
+/// Where there are too many terminals or units, or none.
+pub fn over_limit(document: &Table) -> Option<&'static str>
+    ensures { option_map (λ path. path.now) result ≡ over_limit (table_view document.now) }
+{
+    if is_over(MAX_TERMINALS, tables_at(Key::Terminals, document)) {
+        Some("terminal")
+    } else if is_over(MAX_UNITS, tables_at(Key::Units, document)) {
+        Some("unit")
+    } else {
+        None
+    }
+}
+
+/// Whether the number of tables is not from 1 to a limit.
+fn is_over(limit: usize, values: &[Value]) -> bool
+    ensures { result ≡ is_over limit (length (tables_of (items_view values.now))) }
+{
+    let mut number = 0;
+    for value in values {
+        if value.is_table() {
+            number += 1;
+        }
+    }
+    number < 1 || limit < number
+}
