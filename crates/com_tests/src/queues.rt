@@ -1,5 +1,5 @@
 //! Queues of messages: what units are given, in which order, and what stays.
-ghost use Rattle.std.specs.Prelude.{◌≡◌, IfOk, length};
+ghost use Rattle.std.specs.Prelude.{◌≡◌, ◌<◌, ◌≤◌, IfOk, length};
 ghost use Rattle.com_tree.specs.Written.{leaf_count};
 
 use com_cd::{InArea, InField};
@@ -76,9 +76,38 @@ fn area_of(names: &[u8; 48]) -> Result<InArea, Fail> {
     Ok(InArea::read(&bytes).ok_or("no area")?)
 }
 
-/// The text that was given.
-fn given(taken: Taken) -> Result<Text, Fail> {
-    match taken {
+/// What a RECEIVE MESSAGE takes. The tests are proved by no more than this contract.
+fn receive(
+    queues: &mut Queues,
+    tree: &Tree,
+    unit: u32,
+    area: &mut InArea,
+    size: u32,
+) -> Result<Taken, Fail>
+    requires tree { leaf_count tree.now ≡ queues.old.leaves }
+    requires unit { unit < queues.old.units }
+    requires size { (1 ≤ size) × (size ≤ 2000) }
+    ensures leaves { queues.new.leaves ≡ queues.old.leaves }
+    ensures units { queues.new.units ≡ queues.old.units }
+{
+    Ok(queues.receive(tree, unit, area, Kind::Message, size)?)
+}
+
+/// The text that a RECEIVE MESSAGE gives.
+fn given(
+    queues: &mut Queues,
+    tree: &Tree,
+    unit: u32,
+    area: &mut InArea,
+    size: u32,
+) -> Result<Text, Fail>
+    requires tree { leaf_count tree.now ≡ queues.old.leaves }
+    requires unit { unit < queues.old.units }
+    requires size { (1 ≤ size) × (size ≤ 2000) }
+    ensures leaves { queues.new.leaves ≡ queues.old.leaves }
+    ensures units { queues.new.units ≡ queues.old.units }
+{
+    match receive(queues, tree, unit, area, size)? {
         Taken::Given(text) => Ok(text),
         Taken::NoData => Err(Fail::new("no data")),
         Taken::Unknown => Err(Fail::new("unknown")),
@@ -98,15 +127,15 @@ fn a_message_is_handed_out_in_portions_of_five(rt: HostRuntime) -> Result<(), Fa
         message(rt.alloc(), 1, "ABCDEFGHIJKL")?,
     )?;
     let mut area = area_of(Q1)?;
-    let first = given(queues.receive(&tree, 0, &mut area, Kind::Message, 5)?)?;
+    let first = given(&mut queues, &tree, 0, &mut area, 5)?;
     assert_eq!(rt; first.as_bytes(), b"ABCDE".as_slice());
     assert_eq!(rt;
         area.as_bytes(),
         b"Q1                                              74013112345678T1          0005000000000".as_slice()
     );
-    let second = given(queues.receive(&tree, 0, &mut area, Kind::Message, 5)?)?;
+    let second = given(&mut queues, &tree, 0, &mut area, 5)?;
     assert_eq!(rt; second.as_bytes(), b"FGHIJ".as_slice());
-    let third = given(queues.receive(&tree, 0, &mut area, Kind::Message, 5)?)?;
+    let third = given(&mut queues, &tree, 0, &mut area, 5)?;
     assert_eq!(rt; third.as_bytes(), b"KL".as_slice());
     assert_eq!(rt;
         area.as_bytes(),
@@ -122,11 +151,11 @@ fn each_unit_goes_on_with_its_own_message(rt: HostRuntime) -> Result<(), Fail> {
     put(&mut queues, &tree, 0, message(rt.alloc(), 1, "ABCDEFGH")?)?;
     put(&mut queues, &tree, 0, message(rt.alloc(), 2, "XY")?)?;
     let mut area = area_of(Q1)?;
-    let first = given(queues.receive(&tree, 0, &mut area, Kind::Message, 5)?)?;
+    let first = given(&mut queues, &tree, 0, &mut area, 5)?;
     assert_eq!(rt; first.as_bytes(), b"ABCDE".as_slice());
     queues.count(&tree, &mut area);
     assert_eq!(rt; area.get(InField::Count), b"000001".as_slice());
-    let other = given(queues.receive(&tree, 1, &mut area, Kind::Message, 5)?)?;
+    let other = given(&mut queues, &tree, 1, &mut area, 5)?;
     assert_eq!(rt; other.as_bytes(), b"XY".as_slice());
     let top = Node { row: 0 };
     if tree.rows().is_empty() {
@@ -137,7 +166,7 @@ fn each_unit_goes_on_with_its_own_message(rt: HostRuntime) -> Result<(), Fail> {
     assert!(rt; !queues.has_data(&tree, 1, top));
     queues.drop_unit(0);
     assert!(rt; !queues.has_data(&tree, 0, top));
-    let last = queues.receive(&tree, 1, &mut area, Kind::Message, 5)?;
+    let last = receive(&mut queues, &tree, 1, &mut area, 5)?;
     assert!(rt; matches!(last, Taken::NoData));
     assert_eq!(rt;
         area.as_bytes(),
@@ -165,17 +194,17 @@ fn a_tree_hands_out_in_its_order(rt: HostRuntime) -> Result<(), Fail> {
     put(&mut queues, &tree, 0, message(rt.alloc(), 3, "IN A1")?)?;
     let north = area_of(b"ORDERS      NORTH                               ")?;
     let mut area = north;
-    let first = given(queues.receive(&tree, 0, &mut area, Kind::Message, 9)?)?;
+    let first = given(&mut queues, &tree, 0, &mut area, 9)?;
     assert_eq!(rt; first.as_bytes(), b"IN B1".as_slice());
     assert_eq!(rt;
         area.as_bytes(),
         b"ORDERS      NORTH       B           B1          74013112345678T1          0005200000000".as_slice()
     );
     let mut area = north;
-    let second = given(queues.receive(&tree, 0, &mut area, Kind::Message, 9)?)?;
+    let second = given(&mut queues, &tree, 0, &mut area, 9)?;
     assert_eq!(rt; second.as_bytes(), b"IN A1".as_slice());
     let mut area = north;
-    let third = given(queues.receive(&tree, 0, &mut area, Kind::Message, 9)?)?;
+    let third = given(&mut queues, &tree, 0, &mut area, 9)?;
     assert_eq!(rt; third.as_bytes(), b"IN A2".as_slice());
     Ok(())
 }
@@ -195,11 +224,11 @@ fn an_unknown_designation_changes_the_status_alone(rt: HostRuntime) -> Result<()
         assert_eq!(rt; area, want);
     }
     let mut area = gap;
-    let taken = queues.receive(&tree, 0, &mut area, Kind::Message, 9)?;
+    let taken = receive(&mut queues, &tree, 0, &mut area, 9)?;
     assert!(rt; matches!(taken, Taken::Unknown));
     assert_eq!(rt; area.get(InField::Status), b"20".as_slice());
     let mut area = area_of(Q1)?;
-    let text = given(queues.receive(&tree, 0, &mut area, Kind::Message, 9)?)?;
+    let text = given(&mut queues, &tree, 0, &mut area, 9)?;
     assert_eq!(rt; text.as_bytes(), b"AB".as_slice());
     Ok(())
 }
