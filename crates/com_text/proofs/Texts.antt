@@ -1,5 +1,8 @@
 -- What is a text: the parts of one, two of them joined, names, their fields, and digits.
-use Rattle.std.proofs.Common.{◌≡◌, ℕ, zero, suc, ◌+◌, ◌-◌, ◌/◌, ◌%◌, true, List, [], ◌∷◌, ◌++◌, length, take, drop, refl, arith, length-append}
+use Rattle.std.proofs.Common.{◌≡◌, ℕ, zero, suc, ◌+◌, ◌-◌, ◌<◌, ◌/◌, ◌%◌, true, List, [], ◌∷◌, ◌++◌, length, take, drop, get_or, refl, arith, length-append, Ok, Err}
+use Rattle.std.specs.Prelude.{Result, MatchResult, IsOk}
+use Rattle.std.specs.Str.{IsUtf8}
+use Rattle.std.proofs.lemmas.Str.{IsUtf8-from_ascii}
 use Rattle.std.specs.List.{list_all}
 use Rattle.std.specs.Str.{all_ascii_digits}
 use Rattle.std.specs.Char.{is_ascii_digit}
@@ -69,3 +72,19 @@ IsText-in_digits n (suc width) =
 pub length-in_digits : (n width : ℕ) → length (in_digits n width) ≡ width
 length-in_digits n zero = refl
 length-in_digits n (suc width) = omega (arith, length-append (in_digits (n / 10) width) ((48 + n % 10) ∷ []), length-in_digits (n / 10) width)
+
+byte-below : (byte : ℕ) → is_text_byte byte ≡ true → byte < 128
+byte-below byte h = grind (arith, nat_tests)
+
+text-below : (bytes : List ℕ) (i : ℕ) → IsText bytes → get_or bytes i 0 < 128
+text-below [] i h = omega arith
+text-below (x ∷ xs) zero h = byte-below x (and_parts (is_text_byte x) (is_text xs) h).0
+text-below (x ∷ xs) (suc i) h = text-below xs i (and_parts (is_text_byte x) (is_text xs) h).1
+
+IsUtf8-text : (bytes : List ℕ) → IsText bytes → IsUtf8 bytes
+IsUtf8-text bytes h = IsUtf8-from_ascii bytes (λ i. text-below bytes i h)
+
+-- reading a text as UTF-8 is answered Ok
+pub read-text : {T E : Type 0} (P : T → Type 0) (Q : E → Type 0) (bytes : List ℕ) (read : Result T E) → IsText bytes → MatchResult read P (λ e. ¬ IsUtf8 bytes × Q e) → IsOk read
+read-text P Q bytes (Ok s) h cases = refl
+read-text P Q bytes (Err e) h cases = absurd (cases.0 (IsUtf8-text bytes h))

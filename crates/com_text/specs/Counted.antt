@@ -1,12 +1,13 @@
 -- A counted field: how many bytes it has, in decimal, a colon, and the bytes.
 use Rattle.std.specs.Prelude.{◌≡◌, ℕ, ◌≤◌, List, ◌∷◌, ◌++◌, length, take, slice_range, slice_index, decimal, Bool, ◌==◌}
+use Rattle.com_text.specs.declared.counted.TheConstants.{MAX_COUNTED}
 
 abbrev pub counted_field : List ℕ → List ℕ
 counted_field content = decimal (length content) ++ 58 ∷ content
 
--- a field has at most 999,999 bytes
+-- as many bytes as a field may have at most
 abbrev pub IsCountable : List ℕ → Type 0
-IsCountable content = length content ≤ 999999
+IsCountable content = length content ≤ MAX_COUNTED
 
 abbrev pub is_colon : ℕ → Bool
 is_colon byte = byte == 58

@@ -55,7 +55,7 @@ fn colon_in(bytes: &[u8]) -> Option<usize>
 /// The number of bytes that these digits say, written as a counted field writes it.
 fn count_of(digits: &[u8]) -> Option<usize>
     ensures { (count : ℕ) → (result ≡ Some count)
-        ↔ ((count ≤ 999999) × (digits.now ≡ decimal count)) }
+        ↔ ((count ≤ MAX_COUNTED) × (digits.now ≡ decimal count)) }
 {
     if digits.len() > COUNT_DIGITS || has_leading_zero(digits) {
         return None;
@@ -64,7 +64,6 @@ fn count_of(digits: &[u8]) -> Option<usize>
     Some(count as usize)
 }
 
-/// Whether there are more digits than one, and the first is a zero.
 /// Whether digits have a zero at their front that is not alone.
 pub fn has_leading_zero(digits: &[u8]) -> bool
     ensures { IsTrue result ↔ HasLeadingZero digits.now }

@@ -1,6 +1,7 @@
 //! Numbers in decimal digits.
 ghost use Rattle.std.specs.Prelude.{◌≡◌, ◌↔◌, ◌<◌, ◌^◌, ◌++◌, ℕ, length, decimal, IsSome, IfSome, OnOk, OnErr};
 ghost use Rattle.com_text.specs.Digits.{in_digits, IsNumber, number};
+ghost use Rattle.com_text.specs.Text.{IsText};
 
 use crate::Rows;
 use std::alloc::AllocError;
@@ -19,6 +20,18 @@ pub fn digits(n: u64, into: &mut [u8])
         into[place] = b'0' + (left % 10) as u8;
         left /= 10;
     }
+}
+
+/// A number in `N` decimal digits, with leading zeros.
+pub fn digits_of<const N: usize>(n: u64) -> [u8; N]
+    requires { n < 10 ^ N }
+    ensures digits { result ≡ in_digits n N }
+    ensures number { number result ≡ n }
+    ensures text { IsText result }
+{
+    let mut field = [b'0'; N];
+    digits(n, &mut field);
+    field
 }
 
 /// The number that decimal digits write, leading zeros or not: None exactly where there are no

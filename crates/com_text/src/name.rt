@@ -7,6 +7,7 @@ ghost use Rattle.std.specs.Cmp.Rules.{comparing};
 ghost use Rattle.std.proofs.Common.{rules};
 
 use std::marker::Model;
+use std::str;
 
 /// How many characters a name's field has.
 pub const FIELD_LENGTH: usize = 12;
@@ -84,6 +85,14 @@ impl Name {
     {
         let (characters, _) = self.field.split_at(length_before_space(&self.field));
         characters
+    }
+
+    /// The characters of the name alone, as a `&str`.
+    pub fn as_str(&self) -> &str
+        ensures characters { result.now ≡ self.now }
+        ensures valid { IsName self.now }
+    {
+        str::from_utf8(self.as_bytes()).unwrap()
     }
 
     /// What a field holds. A name that begins later than the field's first character, or that

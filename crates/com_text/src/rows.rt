@@ -1,5 +1,5 @@
 //! A list that owns its items.
-ghost use Rattle.std.specs.Prelude.{◌≡◌, List, [], ◌∷◌, ◌++◌, OnOk, OnErr, IfErr, take, length};
+ghost use Rattle.std.specs.Prelude.{◌≡◌, ◌↔◌, List, [], ◌∷◌, ◌++◌, IsTrue, OnOk, OnErr, IfErr, take, length};
 
 use std::alloc::{AllocError, AllocFailed, Global};
 use std::marker::Model;
@@ -46,6 +46,20 @@ impl<T> Rows<T> {
         self.items.as_slice()
     }
 
+    /// How many items there are.
+    pub fn len(&self) -> usize
+        ensures { result ≡ length self.now }
+    {
+        self.items.len()
+    }
+
+    /// Whether there is no item.
+    pub fn is_empty(&self) -> bool
+        ensures { IsTrue result ↔ (self.now ≡ []) }
+    {
+        self.items.is_empty()
+    }
+
     /// The allocator that the list grows by.
     pub fn allocator(&self) -> Global {
         *self.items.allocator()
@@ -64,6 +78,15 @@ impl<T> Rows<T> {
     {
         let Rows { items } = self;
         items
+    }
+}
+
+impl<T: Drop> Rows<T> {
+    /// Keeps the first items, so many of them, or all where there are fewer.
+    pub fn truncate(&mut self, count: usize)
+        ensures { self.new ≡ take count self.old }
+    {
+        self.items.truncate(count);
     }
 }
 

@@ -4,6 +4,7 @@ ghost use Rattle.com_text.specs.Text.{IsText, IsFirstBadByte, is_text, is_text_b
 
 use std::alloc::{AllocError, Global};
 use std::marker::Model;
+use std::str;
 use thiserror::Error;
 
 /// A list of characters of 20 to 7E hexadecimal, which contracts see as a list.
@@ -21,7 +22,7 @@ impl Model for Text {
 }
 
 /// Why bytes were not read as a text.
-#[derive(Debug, Drop, Error)]
+#[derive(Clone, Copy, Debug, PartialEq, Eq, Error)]
 pub enum TextError {
     /// `at` is the place, from 0, of the first byte outside 20 to 7E hexadecimal.
     #[error("the byte at {at} is no character of a text")]
@@ -29,6 +30,17 @@ pub enum TextError {
     /// Memory ran out.
     #[error("memory ran out")]
     Memory(AllocError),
+}
+
+impl From<AllocError> for TextError {
+    ghost use Rattle.std.specs.Prelude.{◌≡◌};
+    ghost use Rattle.com_text.specs.declared.text.TextError.TheVariants.{Memory};
+
+    ghost from_gives = { λ error gives. gives ≡ Memory error };
+
+    fn from(error: AllocError) -> TextError {
+        TextError::Memory(error)
+    }
 }
 
 impl Text {
@@ -43,7 +55,7 @@ impl Text {
         if let Some(at) = first_bad_byte(bytes) {
             return Err(TextError::BadByte { at });
         }
-        let bytes = Vec::from_slice(alloc, bytes).map_err(TextError::Memory)?;
+        let bytes = Vec::from_slice(alloc, bytes)?;
         Ok(Text { bytes })
     }
 
@@ -61,6 +73,14 @@ impl Text {
         ensures text { IsText self.now }
     {
         self.bytes.as_slice()
+    }
+
+    /// The characters, in order, as a `&str`.
+    pub fn as_str(&self) -> &str
+        ensures same { result.now ≡ self.now }
+        ensures text { IsText self.now }
+    {
+        str::from_utf8(&self.bytes).unwrap()
     }
 
     /// A second text of the same characters. An error says that memory ran out.
