@@ -13,7 +13,7 @@ use Rattle.com_tree.specs.Places.{branch_of}
 use Rattle.com_tree.proofs.Building.{both}
 
 -- the longest front that passes a test is as many rows from the front
-as_many : (p : TreeRow → Bool) (xs : List TreeRow) → take (length (take_while p xs)) xs ≡ take_while p xs
+pub as_many : (p : TreeRow → Bool) (xs : List TreeRow) → take (length (take_while p xs)) xs ≡ take_while p xs
 as_many p xs = ap (λ n. take n xs) (length-prefix_len p xs)
 
 -- a node with as many rows behind it as stand below it is its branch

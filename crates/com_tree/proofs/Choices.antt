@@ -56,7 +56,7 @@ pub child_test : (rows : List TreeRow) (at child : ℕ) (row other : TreeRow) �
 child_test rows at child row other here there = rw (here, there) refl
 
 -- the choice of an inner node is by all its children
-choice_of_inner : (levels : ℕ) (rows : List TreeRow) (first : ℕ → Option ℕ) (at : ℕ) (row : TreeRow) (choose : Choose) → slice_get rows at ≡ Some row → row.choose ≡ Some choose
+pub choice_of_inner : (levels : ℕ) (rows : List TreeRow) (first : ℕ → Option ℕ) (at : ℕ) (row : TreeRow) (choose : Choose) → slice_get rows at ≡ Some row → row.choose ≡ Some choose
     → choice (suc levels) rows first (node_at at) ≡ chosen_from levels rows first choose (node_at at) (at + 1) (length (rows_below row.depth (drop (at + 1) rows)))
 choice_of_inner levels rows first at row choose here inner = rw (here, inner, below) refl
 

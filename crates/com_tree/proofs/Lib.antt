@@ -2,4 +2,5 @@ pub mod Branches
 pub mod Building
 mod Choices
 mod Searching
+pub mod Underneath
 pub mod Walks

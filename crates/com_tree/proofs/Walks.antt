@@ -131,12 +131,12 @@ one_leaf_more row rows =
     let alone : sum_by (λ (r : TreeRow). cond (is_leaf r) 1 0) (row ∷ []) ≡ cond (is_leaf row) 1 0 = omega arith in
     omega (arith, both_parts, alone)
 
-one_leaf : (row : TreeRow) (rows : List TreeRow) → is_leaf row ≡ true → leaf_count (row ∷ rows) ≡ 1 + leaf_count rows
+pub one_leaf : (row : TreeRow) (rows : List TreeRow) → is_leaf row ≡ true → leaf_count (row ∷ rows) ≡ 1 + leaf_count rows
 one_leaf row rows leaf =
     let one : cond {A = ℕ} (is_leaf row) 1 0 ≡ 1 = rw leaf refl in
     omega (arith, one_leaf_more row rows, one)
 
-no_leaf : (row : TreeRow) (rows : List TreeRow) → is_leaf row ≡ false → leaf_count (row ∷ rows) ≡ leaf_count rows
+pub no_leaf : (row : TreeRow) (rows : List TreeRow) → is_leaf row ≡ false → leaf_count (row ∷ rows) ≡ leaf_count rows
 no_leaf row rows inner =
     let none : cond {A = ℕ} (is_leaf row) 1 0 ≡ 0 = rw inner refl in
     omega (arith, one_leaf_more row rows, none)

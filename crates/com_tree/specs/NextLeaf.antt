@@ -1,5 +1,5 @@
 -- Which leaf a RECEIVE takes a message from, by the first message that waits on each leaf.
-use Rattle.std.specs.Prelude.{ℕ, ◌+◌, zero, suc, Bool, false, ◌==◌, nat_lt, unwrap_or, List, [], ◌∷◌, length, map, drop, Option, Some, None, option_map, option_and_then, slice_get, if◌then◌else◌}
+use Rattle.std.specs.Prelude.{ℕ, ◌+◌, ◌<◌, ◌≤◌, IsSome, zero, suc, Bool, false, ◌==◌, nat_lt, unwrap_or, List, [], ◌∷◌, length, map, drop, Option, Some, None, option_map, option_and_then, slice_get, if◌then◌else◌}
 use Rattle.std.specs.List.{filter, range_with_len}
 use Rattle.com_tree.specs.declared.tree.TreeRow.{TreeRow}
 use Rattle.com_tree.specs.declared.tree.Choose.{Choose}
@@ -7,7 +7,7 @@ use Rattle.com_tree.specs.declared.tree.Choose.TheVariants.{Ordered, Oldest}
 use Rattle.com_tree.specs.declared.tree.Node.{Node}
 use Rattle.com_tree.specs.declared.tree.Leaf.{Leaf}
 use Rattle.com_tree.specs.Written.{rows_below}
-use Rattle.com_tree.specs.Places.{first_leaf}
+use Rattle.com_tree.specs.Places.{first_leaf, past_leaf}
 
 -- the node of a row
 abbrev pub node_at : ℕ → Node
@@ -79,3 +79,9 @@ head_on heads leaf = unwrap_or (slice_get heads leaf) None
 -- message that waits on a leaf; a tree has no more than four levels
 abbrev pub next_leaf : List TreeRow → Node → (ℕ → Option ℕ) → Option Leaf
 next_leaf rows node first = option_map (λ number. record { number = number }) (choice 4 rows first node)
+
+-- a message waits on this leaf, which stands under the node or is it
+pub record WaitsUnder (rows : List TreeRow) (node : Node) (first : ℕ → Option ℕ) (leaf : ℕ) : Type 0 where
+  pub least : first_leaf rows node ≤ leaf
+  pub most : leaf < past_leaf rows node
+  pub waits : IsSome (first leaf)

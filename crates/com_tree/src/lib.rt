@@ -2,8 +2,10 @@
 #![tactic(auto)]
 
 mod build;
+mod laws;
 mod search;
 mod tree;
 
 pub use build::{TreeError, TreeFault, is_outline};
+pub use laws::a_node_chooses_where_a_message_waits;
 pub use tree::{Choose, Leaf, MAX_DEPTH, MAX_LEAVES, Node, Tree, TreeRow};
