@@ -1,13 +1,13 @@
 -- A node chooses a leaf exactly where some leaf under it has a number.
-use Rattle.std.proofs.Common.{◌≡◌, ℕ, zero, suc, ◌+◌, ◌-◌, ◌<◌, ◌≤◌, nat_lt, Bool, true, false, not, List, [], ◌∷◌, ◌++◌, length, take, drop, map, Some, None, refl, sym, ap, ◌∙◌, arith, inl, inr, ◌⊎◌}
-use Rattle.std.specs.Prelude.{Option, slice_get, ◌==◌, IsSome, IfSome, option_map, option_and_then, nat_le}
+use Rattle.std.proofs.Common.{◌≡◌, ℕ, zero, suc, ◌+◌, ◌-◌, ◌<◌, ◌≤◌, nat_lt, Bool, true, false, List, [], ◌∷◌, ◌++◌, length, take, drop, Some, None, refl, sym, ap, ◌∙◌, arith, inl, inr, ◌⊎◌}
+use Rattle.std.specs.Prelude.{Option, slice_get, ◌==◌, IsSome, IfSome, option_map, nat_le}
 use Rattle.std.specs.List.{take_while}
 use Rattle.std.proofs.lemmas.Bool.{cases_Bool, false≢true}
 use Rattle.std.proofs.lemmas.Bool.Decides.{nat_tests}
 use Rattle.std.proofs.Math.Seq.{take-add}
-use Rattle.std.proofs.lemmas.List.{drop-drop, take_all, length-drop, length-append}
-use Rattle.std.proofs.lemmas.List.Sums.{take_while-cons, sum_by-append, sum_by-take-le}
-use Rattle.std.proofs.lemmas.Option.{none-some, same_Some, slice_get-get_or, slice_get_within}
+use Rattle.std.proofs.lemmas.List.{drop-drop, length-drop, length-append}
+use Rattle.std.proofs.lemmas.List.Sums.{take_while-cons, sum_by-append}
+use Rattle.std.proofs.lemmas.Option.{none-some, same_Some}
 use mathlib.Core.Bool.{cond}
 use Rattle.com_tree.specs.declared.tree.TreeRow.{TreeRow}
 use Rattle.com_tree.specs.declared.tree.Node.{Node}

@@ -3,6 +3,7 @@ use Rattle.std.specs.Prelude.{ℕ, ◌+◌, Bool, true, false, not, ◌&&◌, �
 use Rattle.std.specs.List.{find, list_any, take_while, range_with_len}
 use Rattle.std.specs.Option.{option_or}
 use Rattle.com_tree.specs.declared.tree.TreeRow.{TreeRow}
+use Rattle.com_tree.specs.declared.tree.TheConstants.{MAX_DEPTH, MAX_LEAVES}
 use Rattle.com_tree.specs.declared.build.TreeFault.{TreeFault}
 use Rattle.com_tree.specs.declared.build.TreeFault.TheVariants.{TwiceNamed, TooDeep, TooMany, Empty}
 use Rattle.com_tree.specs.Written.{is_leaf, is_deeper, has_name, leaf_count}
@@ -32,9 +33,9 @@ abbrev pub is_twice_named : List TreeRow → TreeRow → Bool
 is_twice_named before row =
     list_any (has_name row.depth row.name) (siblings_before row.depth before)
 
--- a leaf behind 64 others
+-- a leaf behind as many others as there may be
 abbrev pub is_one_leaf_more : List TreeRow → TreeRow → Bool
-is_one_leaf_more before row = is_leaf row && nat_le 64 (leaf_count before)
+is_one_leaf_more before row = is_leaf row && nat_le MAX_LEAVES (leaf_count before)
 
 -- the first of these rows is an inner node that no child follows
 abbrev pub is_childless : List TreeRow → Bool
@@ -57,11 +58,11 @@ first_place test rows = find test (range_with_len 0 (length rows))
 abbrev pub twice_named : List TreeRow → Option ℕ
 twice_named rows = first_place (λ at. holds_at (is_twice_named (take at rows)) rows at) rows
 
--- that of the first row below the fourth level
+-- that of the first row below the lowest level
 abbrev pub too_deep : List TreeRow → Option ℕ
-too_deep rows = first_place (holds_at (λ row. nat_lt 4 row.depth) rows) rows
+too_deep rows = first_place (holds_at (λ row. nat_lt MAX_DEPTH row.depth) rows) rows
 
--- that of the 65th leaf
+-- that of the first leaf too many
 abbrev pub too_many : List TreeRow → Option ℕ
 too_many rows = first_place (λ at. holds_at (is_one_leaf_more (take at rows)) rows at) rows
 

@@ -4,3 +4,4 @@ pub mod NextLeaf
 pub mod Faults
 pub mod Refusals
 pub mod Choosing
+pub mod Siblings

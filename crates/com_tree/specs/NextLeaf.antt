@@ -6,6 +6,7 @@ use Rattle.com_tree.specs.declared.tree.Choose.{Choose}
 use Rattle.com_tree.specs.declared.tree.Choose.TheVariants.{Ordered, Oldest}
 use Rattle.com_tree.specs.declared.tree.Node.{Node}
 use Rattle.com_tree.specs.declared.tree.Leaf.{Leaf}
+use Rattle.com_tree.specs.declared.tree.TheConstants.{MAX_DEPTH}
 use Rattle.com_tree.specs.Written.{rows_below}
 use Rattle.com_tree.specs.Places.{first_leaf, past_leaf}
 
@@ -76,9 +77,9 @@ abbrev pub head_on : List (Option ℕ) → ℕ → Option ℕ
 head_on heads leaf = unwrap_or (slice_get heads leaf) None
 
 -- NextLeaf: the leaf that the node chooses, where `first` gives the arrival number of the first
--- message that waits on a leaf; a tree has no more than four levels
+-- message that waits on a leaf; a tree has no more levels
 abbrev pub next_leaf : List TreeRow → Node → (ℕ → Option ℕ) → Option Leaf
-next_leaf rows node first = option_map (λ number. record { number = number }) (choice 4 rows first node)
+next_leaf rows node first = option_map (λ number. record { number = number }) (choice MAX_DEPTH rows first node)
 
 -- a message waits on this leaf, which stands under the node or is it
 pub record WaitsUnder (rows : List TreeRow) (node : Node) (first : ℕ → Option ℕ) (leaf : ℕ) : Type 0 where

@@ -5,6 +5,7 @@ use Rattle.std.specs.Str.{bytes_eq}
 use Rattle.com_text.specs.Name.{is_name}
 use Rattle.com_tree.specs.declared.tree.TreeRow.{TreeRow}
 use Rattle.com_tree.specs.declared.tree.Choose.{Choose}
+use Rattle.com_tree.specs.declared.tree.TheConstants.{MAX_DEPTH, MAX_LEAVES}
 
 -- a leaf has no way to choose
 abbrev pub is_leaf_choice : Option Choose → Bool
@@ -64,10 +65,10 @@ abbrev pub top_count : List TreeRow → ℕ
 top_count rows = count_by (λ row. row.depth == 1) rows
 
 -- Trees that a description may have: one node or more, every inner node with a child, no more than
--- four levels and 64 leaves, and siblings of different names.
+-- so many levels and leaves, and siblings of different names.
 pub record IsWritten (rows : List TreeRow) : Type 0 where
   pub forest : IsTrue (is_forest rows)
-  pub levels : IsTrue (list_all (λ row. nat_le 1 row.depth && nat_le row.depth 4) rows)
-  pub leaves : leaf_count rows ≤ 64
+  pub levels : IsTrue (list_all (λ row. nat_le 1 row.depth && nat_le row.depth MAX_DEPTH) rows)
+  pub leaves : leaf_count rows ≤ MAX_LEAVES
   pub names : IsTrue (list_all (λ row. is_name row.name) rows)
   pub distinct : IsTrue (are_siblings_distinct rows)

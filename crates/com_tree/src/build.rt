@@ -1,12 +1,15 @@
 //! Which rows are trees, and why others are none.
-ghost use Rattle.std.specs.Prelude.{◌≡◌, None, IsTrue, IfNone, IfOk, IfErr, OnOk};
-ghost use Rattle.std.specs.List.{list_all};
+ghost use Rattle.std.specs.Prelude.{◌≡◌, ◌≤◌, ◌+◌, ◌-◌, ◌++◌, [], ◌∷◌, false, length, take, None, IsTrue, IfNone, IfOk, IfErr, OnOk};
+ghost use Rattle.std.specs.List.{list_all, list_any};
+ghost use Rattle.std.specs.Str.{bytes_eq};
 ghost use Rattle.com_text.specs.Name.{is_name};
-ghost use Rattle.com_tree.specs.Faults.{is_outline, may_stand_behind, tree_fault, twice_named, too_deep, too_many, empty, is_twice_named, is_childless};
+ghost use Rattle.com_tree.specs.Faults.{is_outline, may_stand_behind, tree_fault, twice_named, too_deep, too_many, empty, is_childless};
 ghost use Rattle.com_tree.specs.Refusals.{IsRefusalOf};
+ghost use Rattle.com_tree.specs.Siblings.{taken_names, names_at, with_name};
 
 use crate::{MAX_DEPTH, MAX_LEAVES, Tree, TreeRow};
-use com_text::Rows;
+use com_text::{Name, Rows};
+use indexmap::IndexSet;
 use std::alloc::{AllocError, Global};
 use thiserror::Error;
 
@@ -24,7 +27,7 @@ pub enum TreeFault {
 }
 
 /// Why no tree was built.
-#[derive(Debug, Drop, Error)]
+#[derive(Clone, Copy, Debug, Error)]
 pub enum TreeError {
     /// The first of these faults, in the order of [`TreeFault`], and its first row, from 0.
     #[error("the node at row {row} is refused: {fault:?}")]
@@ -32,6 +35,16 @@ pub enum TreeError {
     /// Memory ran out.
     #[error("memory ran out")]
     Memory(AllocError),
+}
+
+impl From<AllocError> for TreeError {
+    ghost use Rattle.com_tree.specs.declared.build.TreeError.TheVariants.{Memory};
+
+    ghost from_gives = { λ error tree_error. tree_error ≡ Memory error };
+
+    fn from(error: AllocError) -> TreeError {
+        TreeError::Memory(error)
+    }
 }
 
 impl Tree {
@@ -44,10 +57,10 @@ impl Tree {
         ensures accepted { OnOk result (tree_fault rows.now ≡ None) }
         ensures refused { IfErr result (IsRefusalOf rows.now) }
     {
-        if let Some((row, fault)) = fault_in(rows) {
+        if let Some((row, fault)) = fault_in(alloc, rows)? {
             return Err(TreeError::Refused { row, fault });
         }
-        let rows = Vec::from_slice(alloc, rows).map_err(TreeError::Memory)?;
+        let rows = Vec::from_slice(alloc, rows)?;
         Ok(Tree::of_rows(Rows::of_vec(rows)))
     }
 }
@@ -81,46 +94,84 @@ fn may_stand_behind(row: &TreeRow, next: &TreeRow) -> bool
 }
 
 /// The first kind of fault that there is, and its first row.
-fn fault_in(rows: &[TreeRow]) -> Option<(usize, TreeFault)>
-    ensures fault { result ≡ tree_fault rows.now }
-    ensures names { IfNone result (IsTrue (list_all (λ row. is_name row.name) rows.now)) }
+fn fault_in(alloc: Global, rows: &[TreeRow]) -> Result<Option<(usize, TreeFault)>, AllocError>
+    requires outline { IsTrue (is_outline rows.now) }
+    ensures fault { IfOk result (λ found. found ≡ tree_fault rows.now) }
+    ensures names { IfOk result (λ found. IfNone found
+        (IsTrue (list_all (λ row. is_name row.name) rows.now))) }
 {
-    if let Some(row) = twice_named(rows) {
-        return Some((row, TreeFault::TwiceNamed));
+    if let Some(row) = twice_named(alloc, rows)? {
+        return Ok(Some((row, TreeFault::TwiceNamed)));
     }
     if let Some(row) = too_deep(rows) {
-        return Some((row, TreeFault::TooDeep));
+        return Ok(Some((row, TreeFault::TooDeep)));
     }
     if let Some(row) = too_many(rows) {
-        return Some((row, TreeFault::TooMany));
+        return Ok(Some((row, TreeFault::TooMany)));
     }
-    let row = empty(rows)?;
-    Some((row, TreeFault::Empty))
+    match empty(rows) {
+        Some(row) => Ok(Some((row, TreeFault::Empty))),
+        None => Ok(None),
+    }
 }
 
 /// The first row that has the name of a sibling before it.
-fn twice_named(rows: &[TreeRow]) -> Option<usize>
-    ensures row { result ≡ twice_named rows.now }
-    ensures names { IfNone result (IsTrue (list_all (λ row. is_name row.name) rows.now)) }
+fn twice_named(alloc: Global, rows: &[TreeRow]) -> Result<Option<usize>, AllocError>
+    requires outline { IsTrue (is_outline rows.now) }
+    ensures row { IfOk result (λ found. found ≡ twice_named rows.now) }
+    ensures names { IfOk result (λ found. IfNone found
+        (IsTrue (list_all (λ row. is_name row.name) rows.now))) }
 {
+    let mut levels = Vec::new(alloc);
     for (at, row) in rows.iter().enumerate() {
-        if is_twice_named(&rows[..at], row) {
-            return Some(at);
+        if is_taken(alloc, &mut levels, row)? {
+            return Ok(Some(at));
         }
     }
-    None
+    Ok(None)
 }
 
-fn is_twice_named(before: &[TreeRow], row: &TreeRow) -> bool
-    ensures twice { result ≡ is_twice_named before.now row.now }
+/// Whether a sibling has the name of a row; else it is taken from now on. `levels` has, level by
+/// level, the names of the siblings so far.
+fn is_taken<'a>(
+    alloc: Global,
+    levels: &mut Vec<IndexSet<&'a [u8]>>,
+    row: &'a TreeRow,
+) -> Result<bool, AllocError>
+    requires top { 1 ≤ row.now.depth }
+    requires next { row.now.depth ≤ length levels.old.items + 1 }
+    ensures taken { IfOk result (λ taken. taken ≡ list_any (bytes_eq row.now.name)
+        (names_at row.now.depth (taken_names levels.old.items))) }
+    ensures levels { IfOk result (λ taken. taken ≡ false → taken_names levels.new.items
+        ≡ with_name row.now.depth row.now.name (taken_names levels.old.items)) }
     ensures name { IsTrue (is_name row.now.name) }
 {
     let name = row.name.as_bytes();
-    before
-        .iter()
-        .rev()
-        .take_while(|other| row.depth <= other.depth)
-        .any(|other| other.depth == row.depth && other.name.as_bytes() == name)
+    let level = row.depth as usize;
+    go_to_level(alloc, levels, level)?;
+    let is_new = levels[level - 1].insert(name)?;
+    Ok(!is_new)
+}
+
+/// Goes on at a level, which is at most one below the lowest: what is taken below it is taken no
+/// more.
+fn go_to_level<'a>(
+    alloc: Global,
+    levels: &mut Vec<IndexSet<&'a [u8]>>,
+    level: usize,
+) -> Result<(), AllocError>
+    requires top { 1 ≤ level }
+    requires next { level ≤ length levels.old.items + 1 }
+    ensures names { OnOk result (taken_names levels.new.items
+        ≡ take (level - 1) (taken_names levels.old.items)
+        ++ names_at level (taken_names levels.old.items) ∷ []) }
+    ensures level { OnOk result (length levels.new.items ≡ level) }
+{
+    levels.truncate(level);
+    if levels.len() < level {
+        levels.push(IndexSet::new(alloc))?;
+    }
+    Ok(())
 }
 
 /// The first row below the fourth level.

@@ -5,14 +5,14 @@ ghost use Rattle.com_tree.specs.Places.{leaf_at, first_leaf, past_leaf, top_of, 
 ghost use Rattle.com_tree.specs.NextLeaf.{next_leaf, choice, is_later, head_on, node_at};
 ghost use Rattle.com_tree.specs.Choosing.{better};
 
-use crate::{Choose, Leaf, MAX_DEPTH, Node, Tree, TreeRow};
+use crate::{Choose, Leaf, MAX_DEPTH, MAX_LEAVES, Node, Tree, TreeRow};
 use com_text::{MAX_NAMES, Name, NamePath};
 
 impl Tree {
     /// How many leaves there are, 1 to 64.
     pub fn leaves(&self) -> u32
         ensures leaves { result ≡ leaf_count self.now }
-        ensures few { result ≤ 64 }
+        ensures few { result ≤ MAX_LEAVES }
     {
         count_leaves(self.rows())
     }
@@ -200,7 +200,7 @@ fn path_of(names: &[Name]) -> NamePath
 
 /// How many of the nodes are leaves.
 fn count_leaves(rows: &[TreeRow]) -> u32
-    requires { leaf_count rows.now ≤ 64 }
+    requires { leaf_count rows.now ≤ MAX_LEAVES }
     ensures { result ≡ leaf_count rows.now }
 {
     rows.iter().filter(|row| row.is_leaf()).count() as u32

@@ -8,4 +8,4 @@ of_rows-requires c =
     let rows = c.args.rows.now in
     let same : c.of_vec.result ≡ rows = search rules in
     let none : tree_fault rows ≡ None = search rules in
-    rw same (written_of rows c.requires.outline none c.in_default.ensures.names)
+    rw same (written_of rows c.requires.outline none (rw c.in_default.is at c.in_ok-row.ensures.names))
