@@ -13,7 +13,8 @@ use Rattle.com_msg.specs.declared.message.RawMessage.{RawMessage}
 use Rattle.com_msg.specs.declared.framing.Framing.TheVariants.{Marks}
 use Rattle.com_lines.specs.Bytes.{is_between, is_ending, last_of, run, tail_of}
 use Rattle.com_lines.specs.Faults.{kind_of}
-use Rattle.com_lines.specs.Frames.{Frames, IsWithinLimits, encoded, ending_byte, joined, spelling}
+use Rattle.com_msg.specs.Limits.{IsWithinLimits}
+use Rattle.com_lines.specs.Frames.{Frames, encoded, ending_byte, joined, spelling}
 use Rattle.com_lines.specs.Reads.{Reads}
 use Rattle.com_lines.proofs.OneByte.{plain, reads-between, reads-character, reads-end, reads-line_feed, reads-none}
 use Rattle.com_lines.proofs.Runs.{last_of-push}
@@ -98,7 +99,7 @@ pub record IsEncodable (message : RawMessage) : Type 0 where
 reads-parts : (bytes : List ℕ) (given : List RawMessage) (segments : List (List ℕ)) (end : End) → Reads Marks bytes given [] []
     → IsEncodable (record { segments = segments; end = end }) → length given < 65536
     → Reads Marks (bytes ++ (joined segments ++ ending_byte Marks end ∷ [])) (given ++ record { segments = segments; end = end } ∷ []) [] []
-reads-parts bytes given [] end h m room = absurd (omega (arith, m.limits.some))
+reads-parts bytes given [] end h m room = absurd (omega (arith, m.limits.not_empty))
 reads-parts bytes given (segment ∷ segments) end h m room =
     reads-segments bytes given [] segment segments end h m.texts m.limits.short (omega (arith, m.limits.characters)) (omega (arith, m.limits.few)) room
 

@@ -1,11 +1,13 @@
 -- Which places of a terminal's input are at fault, and of which kind.
-use Rattle.std.specs.Prelude.{ℕ, ◌+◌, Bool, false, ◌&&◌, ◌||◌, ◌==◌, not, nat_le, List, length, get_or, take, drop, if◌then◌else◌, Option, Some, None}
+use Rattle.std.specs.Prelude.{ℕ, ◌+◌, ◌-◌, Bool, false, ◌&&◌, ◌||◌, ◌==◌, not, nat_le, List, length, get_or, take, drop, if◌then◌else◌, Option, Some, None}
 use Rattle.std.specs.List.{count_by, filter}
 use Rattle.com_text.specs.Text.{is_text_byte}
 use Rattle.com_msg.specs.declared.framing.Framing.{Framing}
 use Rattle.com_msg.specs.declared.framing.Framing.TheVariants.{Marks, Lines}
 use Rattle.com_msg.specs.declared.framing.FrameKind.{FrameKind}
 use Rattle.com_msg.specs.declared.framing.FrameKind.TheVariants.{BadByte, LongSegment, LongMessage, TooMany, Truncated}
+use Rattle.com_msg.specs.declared.message.TheConstants.{MAX_SEGMENTS, MAX_SEGMENT_LENGTH, MAX_MESSAGE_LENGTH}
+use Rattle.com_lines.specs.declared.reading.TheConstants.{MAX_MESSAGES}
 use Rattle.com_lines.specs.Bytes.{is_between, is_ending, is_skipped, is_kept, last_of, run, tail_of}
 
 -- An LF of marks stands directly behind an ending byte, a CR of lines directly before an LF.
@@ -23,19 +25,21 @@ abbrev pub is_bad_byte : Framing → ℕ → ℕ → ℕ → Bool
 is_bad_byte framing last byte next =
     not (is_known framing byte) || (is_skipped framing byte && not (is_beside_end framing last next))
 
--- LongSegment: a character directly behind 2,000 characters or more
+-- LongSegment: a character directly behind as many characters as a segment may have, or more
 abbrev pub is_long_segment : ℕ → ℕ → Bool
-is_long_segment run_length byte = is_text_byte byte && nat_le 2000 run_length
+is_long_segment run_length byte = is_text_byte byte && nat_le MAX_SEGMENT_LENGTH run_length
 
--- LongMessage: a character in whose message 9,999 stand before, or an ESI before which 9,998 stand
+-- LongMessage: a character behind as many in its message as a message may have, or an ESI behind as
+-- many of them as stand between the segments that a message may have
 abbrev pub is_long_message : Framing → ℕ → ℕ → ℕ → Bool
 is_long_message Marks characters betweens byte =
-    (is_text_byte byte && nat_le 9999 characters) || (is_between Marks byte && nat_le 9998 betweens)
+    (is_text_byte byte && nat_le MAX_MESSAGE_LENGTH characters)
+    || (is_between Marks byte && nat_le (MAX_SEGMENTS - 1) betweens)
 is_long_message Lines characters betweens byte = false
 
--- TooMany: an ending byte before which 65,536 stand
+-- TooMany: an ending byte behind as many of them as messages that an input may have
 abbrev pub is_too_many : Framing → ℕ → ℕ → Bool
-is_too_many framing endings byte = is_ending framing byte && nat_le 65536 endings
+is_too_many framing endings byte = is_ending framing byte && nat_le MAX_MESSAGES endings
 
 -- what is wrong with a byte, by the bytes before and behind it: the first kind in this order
 abbrev pub kind_of : Framing → List ℕ → ℕ → List ℕ → Option FrameKind
@@ -60,5 +64,5 @@ is_open framing bytes = not (length (filter (is_kept framing) (tail_of framing b
 abbrev pub kind_at_end : Framing → List ℕ → Option FrameKind
 kind_at_end Marks bytes = if is_open Marks bytes then Some Truncated else None
 kind_at_end Lines bytes =
-    if is_open Lines bytes && nat_le 65536 (count_by (is_ending Lines) bytes) then Some TooMany
+    if is_open Lines bytes && nat_le MAX_MESSAGES (count_by (is_ending Lines) bytes) then Some TooMany
     else None

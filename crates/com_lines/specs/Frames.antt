@@ -1,6 +1,6 @@
 -- The messages of a terminal's input, and its verdict.
 use Rattle.std.specs.Prelude.{ℕ, ◌+◌, ◌<◌, ◌≤◌, ◌≡◌, ◌⊎◌, List, [], ◌∷◌, ◌++◌, length, get_or, take, if◌then◌else◌, Option, Some, None, All}
-use Rattle.std.specs.List.{concat, filter, flat_map}
+use Rattle.std.specs.List.{filter, flat_map}
 use Rattle.com_text.specs.Text.{IsText}
 use Rattle.com_msg.specs.declared.message.End.{End}
 use Rattle.com_msg.specs.declared.message.End.TheVariants.{Emi, Egi}
@@ -60,7 +60,7 @@ pub record IsFaultAtEnd (framing : Framing) (bytes : List ℕ) (fault : FrameFau
   pub kind : kind_at_end framing bytes ≡ Some fault.kind
   pub clear : IsClear framing bytes (length bytes)
 
--- END: no place is at fault, nor is the length
+-- no place is at fault, nor is the length
 pub record IsSound (framing : Framing) (bytes : List ℕ) : Type 0 where
   pub clear : IsClear framing bytes (length bytes)
   pub sound_end : kind_at_end framing bytes ≡ None
@@ -70,7 +70,7 @@ abbrev pub with_end : Framing → List ℕ → List ℕ
 with_end Marks bytes = bytes
 with_end Lines bytes = if is_open Lines bytes then bytes ++ 10 ∷ [] else bytes
 
--- Frames: the messages and the verdict of an input, where none is END
+-- the messages of a whole input, and its first fault; none where it is sound
 abbrev pub Frames : Framing → List ℕ → List RawMessage → Option FrameFault → Type 0
 Frames framing bytes messages None =
     IsSound framing bytes × AreEnded framing (with_end framing bytes) messages
@@ -78,7 +78,7 @@ Frames framing bytes messages (Some fault) =
     (IsFirstFault framing bytes fault ⊎ IsFaultAtEnd framing bytes fault)
     × AreEnded framing (take fault.at bytes) messages
 
--- Finished: the messages that end before the first fault within the bytes, or before their end
+-- the messages that end before the first fault within the bytes, or before their end
 abbrev pub Finished : Framing → List ℕ → List RawMessage → Type 0
 Finished framing bytes messages =
     (IsClear framing bytes (length bytes) × AreEnded framing bytes messages)
@@ -100,13 +100,6 @@ pub record IsSettledFault (framing : Framing) (bytes : List ℕ) (fault : FrameF
 pub record IsStopped (framing : Framing) (bytes : List ℕ) (given : List RawMessage) (fault : FrameFault) : Type 0 where
   pub settled : IsSettledFault framing bytes fault
   pub ended : AreEnded framing (take fault.at bytes) given
-
--- a message that marks can frame: within the limits of segments, their number and its characters
-pub record IsWithinLimits (message : RawMessage) : Type 0 where
-  pub some : 1 ≤ length message.segments
-  pub few : length message.segments ≤ 9999
-  pub short : All (λ segment. length segment ≤ 2000) message.segments
-  pub characters : length (concat message.segments) ≤ 9999
 
 -- a message as it is written: its spelling and an LF
 abbrev pub encoded : RawMessage → List ℕ

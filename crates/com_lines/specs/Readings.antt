@@ -10,7 +10,9 @@ use Rattle.com_msg.specs.declared.framing.Framing.TheVariants.{Marks, Lines}
 use Rattle.com_msg.specs.declared.framing.FrameFault.{FrameFault}
 use Rattle.com_msg.specs.declared.framing.FrameKind.{FrameKind}
 use Rattle.com_msg.specs.declared.framing.FrameKind.TheVariants.{BadByte, LongSegment, LongMessage, TooMany}
+use Rattle.com_msg.specs.declared.message.TheConstants.{MAX_SEGMENTS, MAX_SEGMENT_LENGTH, MAX_MESSAGE_LENGTH}
 use Rattle.com_lines.specs.declared.reading.Reading.{Reading}
+use Rattle.com_lines.specs.declared.reading.TheConstants.{MAX_MESSAGES}
 use Rattle.com_lines.specs.Bytes.{is_ending, last_of}
 use Rattle.com_lines.specs.Faults.{is_bad_byte, is_long_message, is_long_segment, is_too_many}
 use Rattle.com_lines.specs.Frames.{Frames, IsStopped}
@@ -39,11 +41,11 @@ holds_return reading = is_return reading.framing reading.last
 
 -- within the limits, whatever the bytes were
 pub record IsSafe (reading : Reading) : Type 0 where
-  pub messages : reading.given ≤ 65536
+  pub messages : reading.given ≤ MAX_MESSAGES
   pub counted : reading.characters ≡ length (concat reading.segments) + length reading.text
-  pub characters : reading.characters ≤ 9999
-  pub short : length reading.text ≤ 2000
-  pub few : length reading.segments ≤ 9998
+  pub characters : reading.characters ≤ MAX_MESSAGE_LENGTH
+  pub short : length reading.text ≤ MAX_SEGMENT_LENGTH
+  pub few : length reading.segments < MAX_SEGMENTS
   pub is_text : IsText reading.text
   pub alone : MayStand reading.framing reading.segments
   pub held : holds_return reading ≡ true → 1 ≤ reading.at
@@ -86,7 +88,7 @@ has_open reading = not (length (opened reading.segments reading.text) == 0)
 -- and not one too many.
 pub record CanEnd (reading : Reading) : Type 0 where
   pub free : holds_return reading ≡ false
-  pub open_line : has_open reading ≡ true → (reading.framing ≡ Lines) × (reading.given < 65536)
+  pub open_line : has_open reading ≡ true → (reading.framing ≡ Lines) × (reading.given < MAX_MESSAGES)
 
 -- the bytes are the whole input, it is sound, and the messages that were not given yet were added
 abbrev pub IsWhole : Reading → List RawMessage → List RawMessage → Type 0

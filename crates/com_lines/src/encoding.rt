@@ -3,16 +3,13 @@ ghost use Rattle.std.specs.Prelude.{◌≡◌, ◌↔◌, ◌++◌, ◌≤◌, A
 ghost use Rattle.std.specs.List.{flat_map};
 ghost use Rattle.com_text.specs.Text.{IsText};
 ghost use Rattle.com_msg.specs.declared.framing.Framing.TheVariants.{Marks};
-ghost use Rattle.com_lines.specs.Frames.{Frames, IsWithinLimits, encoded, joined};
+ghost use Rattle.com_msg.specs.Limits.{IsWithinLimits};
+ghost use Rattle.com_lines.specs.Frames.{Frames, encoded, joined};
 
-use com_msg::{End, RawMessage, is_longer};
+use crate::reading::MAX_MESSAGES;
+use com_msg::{End, RawMessage};
 use com_text::{Rows, Text};
 use std::alloc::{AllocError, Global};
-
-/// The characters that a segment may have.
-pub(crate) const MAX_SEGMENT: usize = 2000;
-/// The characters that a message may have, and its segments.
-pub(crate) const MAX_MESSAGE: u32 = 9999;
 
 /// ESI, between two segments.
 pub(crate) const BETWEEN: u8 = 0x17;
@@ -28,7 +25,7 @@ pub fn encode(alloc: Global, messages: &[RawMessage]) -> Result<Rows<u8>, AllocE
     requires limits { All IsWithinLimits messages.now }
     ensures bytes { IfOk result (λ bytes. bytes ≡ flat_map encoded messages.now) }
     ensures framed { IfOk result (λ bytes.
-        length messages.now ≤ 65536 → Frames Marks bytes messages.now None) }
+        length messages.now ≤ MAX_MESSAGES → Frames Marks bytes messages.now None) }
 {
     let mut bytes = Vec::new(alloc);
     for message in messages {
@@ -41,26 +38,7 @@ pub fn encode(alloc: Global, messages: &[RawMessage]) -> Result<Rows<u8>, AllocE
 pub fn are_within_limits(messages: &[RawMessage]) -> bool
     ensures { IsTrue result ↔ All IsWithinLimits messages.now }
 {
-    messages.iter().all(|message| is_within_limits(message))
-}
-
-/// Whether a message has 1 to 9,999 segments, each of 2,000 characters at most, and 9,999
-/// characters at most.
-fn is_within_limits(message: &RawMessage) -> bool
-    ensures { IsTrue result ↔ IsWithinLimits message.now }
-{
-    let segments = message.segments.as_slice();
-    let few = 1 <= segments.len() && segments.len() <= MAX_MESSAGE as usize;
-    few && are_short(segments) && !is_longer(segments, MAX_MESSAGE as usize)
-}
-
-/// Whether each segment has 2,000 characters at most.
-fn are_short(segments: &[Text]) -> bool
-    ensures { IsTrue result ↔ All (λ segment. length segment ≤ 2000) segments.now }
-{
-    segments
-        .iter()
-        .all(|segment| segment.as_bytes().len() <= MAX_SEGMENT)
+    messages.iter().all(|message| message.is_within_limits())
 }
 
 /// Adds the bytes of a message at the end.

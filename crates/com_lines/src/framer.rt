@@ -4,8 +4,8 @@ ghost use Rattle.com_msg.specs.declared.framing.Framing.{Framing};
 ghost use Rattle.com_msg.specs.declared.framing.FrameFault.{FrameFault};
 ghost use Rattle.com_msg.specs.declared.message.RawMessage.{RawMessage};
 ghost use Rattle.com_lines.specs.Frames.{Frames, IsSettledFault};
-ghost use Rattle.com_lines.specs.Framers.{HasFaulted, IsGoing, IsMemory, StandsFor, WantsMemory, state_after};
-ghost use Rattle.com_lines.specs.Readings.{IsContinued, IsCutOff, IsFaulty, IsSafe, IsWhole};
+ghost use Rattle.com_lines.specs.Framers.{HasFaulted, IsGoing, IsMemory, IsUnfinished, StandsFor, WantsMemory, state_after, state_at_end};
+ghost use Rattle.com_lines.specs.Readings.{IsContinued, IsCutOff, IsSafe};
 
 use crate::FeedError;
 use crate::reading::Reading;
@@ -13,7 +13,6 @@ use com_msg::{FrameFault, Framing, RawMessage};
 use com_text::Rows;
 use std::alloc::{AllocError, Global};
 use std::marker::Model;
-use std::mem;
 
 /// Finds the messages of a terminal's input, which comes piece by piece. It keeps no bytes but
 /// those of the message that has not ended.
@@ -32,6 +31,8 @@ enum State {
     Faulted(FrameFault),
     /// Memory ran out.
     NoMemory,
+    /// The input has ended.
+    Ended,
 }
 
 impl Model for Framer {
@@ -49,6 +50,7 @@ impl Framer {
     pub fn new(alloc: Global, framing: Framing) -> Framer
         ensures stands { StandsFor framing result [] [] }
         ensures going { IsGoing result }
+        ensures unfinished { IsUnfinished result }
     {
         Framer {
             state: State::Going,
@@ -61,11 +63,17 @@ impl Framer {
     /// messages before it have been added then, and every later call answers it and adds nothing.
     /// Memory where memory runs out; nothing is added then, and every later call answers it.
     pub fn feed(&mut self, piece: &[u8], into: &mut Rows<RawMessage>) -> Result<(), FeedError>
+        requires unfinished { IsUnfinished self.old }
+
+        // What the framer stands for then, and that it may be called again.
         ensures stands { (framing : Framing) (bytes : List ℕ) (given : List RawMessage)
             → StandsFor framing self.old bytes given
             → (added : List RawMessage) × (into.new ≡ into.old ++ added)
             × StandsFor framing self.new (bytes ++ piece.now) (given ++ added) }
         ensures going { OnOk result (IsGoing self.new) }
+        ensures unfinished { IsUnfinished self.new }
+
+        // A fault: when it is answered, and that it is answered again.
         ensures fault { (framing : Framing) (bytes : List ℕ) (given : List RawMessage)
             → StandsFor framing self.old bytes given
             → (fault : FrameFault) → ¬ IsMemory result
@@ -74,6 +82,8 @@ impl Framer {
             → HasFaulted self.new fault }
         ensures again { (fault : FrameFault) → HasFaulted self.old fault
             → (result ≡ Err (FeedError.Fault fault)) × (into.new ≡ into.old) }
+
+        // Want of memory: that nothing is added, and that it is answered again.
         ensures memory { IsMemory result → WantsMemory self.new × (into.new ≡ into.old) }
         ensures memory_again { WantsMemory self.old → IsMemory result }
     {
@@ -81,17 +91,21 @@ impl Framer {
             State::Going => {}
             State::Faulted(fault) => return Err(FeedError::Fault(fault)),
             State::NoMemory => return Err(FeedError::Memory(AllocError)),
+            State::Ended => unreachable!(),
         }
         let result = feed_into(&mut self.reading, piece, into);
         self.state = state_after(&result);
         result
     }
 
-    /// Ends the input, and adds the messages of all bytes that were not given before. Fault where
-    /// the input is at fault, with its first fault; nothing is added then, and every later call
-    /// answers it. Memory where memory runs out; nothing is added then, and every later call
-    /// answers it. After an Ok no call is to be made.
+    /// Ends the input, and adds the messages of all bytes that were not given before; no call may
+    /// follow then. Fault where the input is at fault, with its first fault; nothing is added then,
+    /// and every later call answers it. Memory where memory runs out; nothing is added then, and
+    /// every later call answers it.
     pub fn finish(&mut self, into: &mut Rows<RawMessage>) -> Result<(), FeedError>
+        requires unfinished { IsUnfinished self.old }
+
+        // The messages and the verdict of the whole input.
         ensures whole { OnOk result ((framing : Framing) (bytes : List ℕ) (given : List RawMessage)
             → StandsFor framing self.old bytes given
             → (added : List RawMessage) × (into.new ≡ into.old ++ added)
@@ -99,7 +113,10 @@ impl Framer {
         ensures fault { (fault : FrameFault) → result ≡ Err (FeedError.Fault fault)
             → (framing : Framing) (bytes : List ℕ) (given : List RawMessage)
             → StandsFor framing self.old bytes given → Frames framing bytes given (Some fault) }
+
+        // After an error nothing was added, the framer may be called again, and it answers the same.
         ensures same { OnErr result (into.new ≡ into.old) }
+        ensures unfinished { OnErr result (IsUnfinished self.new) }
         ensures kept { (fault : FrameFault) → result ≡ Err (FeedError.Fault fault)
             → HasFaulted self.new fault }
         ensures again { (fault : FrameFault) → HasFaulted self.old fault
@@ -111,19 +128,31 @@ impl Framer {
             State::Going => {}
             State::Faulted(fault) => return Err(FeedError::Fault(fault)),
             State::NoMemory => return Err(FeedError::Memory(AllocError)),
+            State::Ended => unreachable!(),
         }
-        let result = finish_into(&mut self.reading, into);
-        self.state = state_after(&result);
+        let result = self.reading.finish(into);
+        self.state = state_at_end(&result);
         result
     }
 }
 
-/// How a framer stands after an answer.
+/// How a framer stands after a piece.
 fn state_after(answer: &Result<(), FeedError>) -> State
     ensures { result ≡ state_after answer.now }
 {
     match answer {
         Ok(()) => State::Going,
+        Err(FeedError::Fault(fault)) => State::Faulted(*fault),
+        Err(FeedError::Memory(_)) => State::NoMemory,
+    }
+}
+
+/// How a framer stands after the end of its input.
+fn state_at_end(answer: &Result<(), FeedError>) -> State
+    ensures { result ≡ state_at_end answer.now }
+{
+    match answer {
+        Ok(()) => State::Ended,
         Err(FeedError::Fault(fault)) => State::Faulted(*fault),
         Err(FeedError::Memory(_)) => State::NoMemory,
     }
@@ -143,30 +172,11 @@ fn feed_into(
         → IsCutOff reading.old piece.now into.old into.new fault }
     ensures memory { IsMemory result → into.new ≡ into.old }
 {
-    let alloc = into.allocator();
-    let mut messages = mem::replace(into, Rows::new(alloc)).into_vec();
-    let before = messages.len();
-    let result = reading.feed(piece, &mut messages);
+    let before = into.len();
+    let result = reading.feed(piece, into);
     if is_memory(&result) {
-        messages.truncate(before);
+        into.truncate(before);
     }
-    *into = Rows::of_vec(messages);
-    result
-}
-
-/// Ends the input, and adds the message that its end ends.
-fn finish_into(reading: &mut Reading, into: &mut Rows<RawMessage>) -> Result<(), FeedError>
-    requires safe { IsSafe reading.old }
-    ensures safe { OnOk result (IsSafe reading.new) }
-    ensures whole { OnOk result (IsWhole reading.old into.old into.new) }
-    ensures fault { (fault : FrameFault) → result ≡ Err (FeedError.Fault fault)
-        → IsFaulty reading.old fault }
-    ensures same { OnErr result (into.new ≡ into.old) }
-{
-    let alloc = into.allocator();
-    let mut messages = mem::replace(into, Rows::new(alloc)).into_vec();
-    let result = reading.finish(&mut messages);
-    *into = Rows::of_vec(messages);
     result
 }
 

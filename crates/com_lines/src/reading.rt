@@ -5,15 +5,18 @@ ghost use Rattle.com_lines.specs.Bytes.{is_between, is_ending, is_skipped};
 ghost use Rattle.com_lines.specs.Faults.{is_bad_byte, is_long_message, is_long_segment, is_too_many};
 ghost use Rattle.com_lines.specs.Readings.{end_of, has_open, CanEnd, HasRead, IsContinued, IsCutOff, IsFaulty, IsWhole, IsNext, IsSafe, IsStop, holds_return, next_kind, open_message, with_byte, with_character, with_message, with_segment};
 
-use crate::encoding::{BETWEEN, GROUP_END, LINE_FEED, MAX_MESSAGE, MAX_SEGMENT, MESSAGE_END};
-use com_msg::{End, FrameFault, FrameKind, Framing, RawMessage};
+use crate::encoding::{BETWEEN, GROUP_END, LINE_FEED, MESSAGE_END};
+use com_msg::{
+    End, FrameFault, FrameKind, Framing, MAX_MESSAGE_LENGTH, MAX_SEGMENT_LENGTH, MAX_SEGMENTS,
+    RawMessage,
+};
 use com_text::{Rows, Text, is_text_byte};
 use std::alloc::{AllocError, Global};
 use std::mem;
 use thiserror::Error;
 
 /// Why a framer gives no more messages.
-#[derive(Debug, Drop, Error)]
+#[derive(Clone, Copy, Debug, PartialEq, Eq, Error)]
 pub enum FeedError {
     /// The bytes are at fault.
     #[error("the byte at {} is at fault: {:?}", .0.at, .0.kind)]
@@ -23,10 +26,22 @@ pub enum FeedError {
     Memory(AllocError),
 }
 
+impl From<AllocError> for FeedError {
+    ghost use Rattle.std.specs.Prelude.{◌≡◌};
+    ghost use Rattle.com_lines.specs.declared.reading.FeedError.TheVariants.{Memory};
+
+    ghost from_gives = { λ error gives. gives ≡ Memory error };
+
+    fn from(error: AllocError) -> FeedError {
+        FeedError::Memory(error)
+    }
+}
+
+/// How many messages the input of a terminal has at most.
+pub const MAX_MESSAGES: usize = 65_536;
+
 /// CR, which may stand before LF in lines.
 const RETURN: u8 = 0x0D;
-/// The messages that an input may have.
-const MAX_MESSAGES: u32 = 65536;
 
 /// What is kept of the bytes that were read.
 #[derive(Debug, Drop)]
@@ -37,9 +52,9 @@ pub(crate) struct Reading {
     /// The last byte, or 0 where there is none.
     last: u8,
     /// How many messages were given.
-    given: u32,
+    given: usize,
     /// How many characters the message has so far.
-    characters: u32,
+    characters: usize,
     /// The segments of the message that have ended.
     segments: Rows<Text>,
     /// The characters of the segment so far.
@@ -78,10 +93,10 @@ impl Reading {
     fn next_kind(&self, byte: u8) -> Option<FrameKind>
         ensures { result ≡ next_kind self.now byte }
     {
-        let betweens = self.segments.as_slice().len();
+        let betweens = self.segments.len();
         if is_bad_byte(self.framing, self.last, byte) {
             Some(FrameKind::BadByte)
-        } else if is_long_segment(self.text.as_slice().len(), byte) {
+        } else if is_long_segment(self.text.len(), byte) {
             Some(FrameKind::LongSegment)
         } else if is_long_message(self.framing, self.characters, betweens, byte) {
             Some(FrameKind::LongMessage)
@@ -115,16 +130,16 @@ impl Reading {
     pub(crate) fn feed(
         &mut self,
         piece: &[u8],
-        messages: &mut Vec<RawMessage>,
+        messages: &mut Rows<RawMessage>,
     ) -> Result<(), FeedError>
         requires safe { IsSafe self.old }
         ensures safe { OnOk result (IsSafe self.new) }
         ensures framing { OnOk result (self.new.framing ≡ self.old.framing) }
-        ensures continued { OnOk result (IsContinued self.old piece.now messages.old.items
-            self.new messages.new.items) }
+        ensures continued { OnOk result (IsContinued self.old piece.now messages.old
+            self.new messages.new) }
         ensures fault { (fault : FrameFault) → result ≡ Err (FeedError.Fault fault)
-            → IsCutOff self.old piece.now messages.old.items messages.new.items fault }
-        ensures front { take (length messages.old.items) messages.new.items ≡ messages.old.items }
+            → IsCutOff self.old piece.now messages.old messages.new fault }
+        ensures front { take (length messages.old) messages.new ≡ messages.old }
     {
         for byte in piece {
             if let Err(error) = self.feed_byte(*byte, messages) {
@@ -135,13 +150,13 @@ impl Reading {
     }
 
     /// Ends the input, and adds the message that its end ends.
-    pub(crate) fn finish(&mut self, messages: &mut Vec<RawMessage>) -> Result<(), FeedError>
+    pub(crate) fn finish(&mut self, messages: &mut Rows<RawMessage>) -> Result<(), FeedError>
         requires safe { IsSafe self.old }
         ensures safe { OnOk result (IsSafe self.new) }
-        ensures whole { OnOk result (IsWhole self.old messages.old.items messages.new.items) }
+        ensures whole { OnOk result (IsWhole self.old messages.old messages.new) }
         ensures fault { (fault : FrameFault) → result ≡ Err (FeedError.Fault fault)
             → IsFaulty self.old fault }
-        ensures same { OnErr result (messages.new.items ≡ messages.old.items) }
+        ensures same { OnErr result (messages.new ≡ messages.old) }
     {
         if let Some(fault) = self.end_fault() {
             return Err(FeedError::Fault(fault));
@@ -149,10 +164,8 @@ impl Reading {
         if !self.has_open() {
             return Ok(());
         }
-        match self.end_message(End::Emi) {
-            Ok(message) => add_message(messages, message),
-            Err(error) => Err(FeedError::Memory(error)),
-        }
+        let message = self.end_message(End::Emi)?;
+        add_message(messages, message)
     }
 
     /// The fault of the input, where it ends here: None where it may.
@@ -188,28 +201,27 @@ impl Reading {
     fn has_open(&self) -> bool
         ensures { result ≡ has_open self.now }
     {
-        if self.segments.as_slice().len() > 0 {
+        if self.segments.len() > 0 {
             return true;
         }
-        self.text.as_slice().len() > 0
+        self.text.len() > 0
     }
 
     /// Reads a byte, and adds the message that it ends.
-    fn feed_byte(&mut self, byte: u8, messages: &mut Vec<RawMessage>) -> Result<(), FeedError>
+    fn feed_byte(&mut self, byte: u8, messages: &mut Rows<RawMessage>) -> Result<(), FeedError>
         requires safe { IsSafe self.old }
         ensures safe { OnOk result (IsSafe self.new) }
         ensures framing { OnOk result (self.new.framing ≡ self.old.framing) }
-        ensures continued { OnOk result (IsContinued self.old (byte ∷ []) messages.old.items
-            self.new messages.new.items) }
+        ensures continued { OnOk result (IsContinued self.old (byte ∷ []) messages.old
+            self.new messages.new) }
         ensures fault { (fault : FrameFault) → result ≡ Err (FeedError.Fault fault)
             → IsStop self.old byte fault }
-        ensures same { OnErr result (messages.new.items ≡ messages.old.items) }
-        ensures front { take (length messages.old.items) messages.new.items ≡ messages.old.items }
+        ensures same { OnErr result (messages.new ≡ messages.old) }
+        ensures front { take (length messages.old) messages.new ≡ messages.old }
     {
-        match self.step(byte) {
-            Ok(Some(message)) => add_message(messages, message),
-            Ok(None) => Ok(()),
-            Err(error) => Err(error),
+        match self.step(byte)? {
+            Some(message) => add_message(messages, message),
+            None => Ok(()),
         }
     }
 
@@ -225,10 +237,7 @@ impl Reading {
         if let Some(fault) = self.next_fault(byte) {
             return Err(FeedError::Fault(fault));
         }
-        match self.take_in(byte) {
-            Ok(message) => Ok(message),
-            Err(error) => Err(FeedError::Memory(error)),
-        }
+        Ok(self.take_in(byte)?)
     }
 
     /// Takes in a byte that is free of fault, and gives the message that it ends.
@@ -273,7 +282,7 @@ impl Reading {
     /// Adds a character to the text.
     fn add_character(&mut self, byte: u8) -> Result<(), AllocError>
         requires few { self.old.at < 2 ^ 60 }
-        requires short { self.old.characters ≤ 9999 }
+        requires short { self.old.characters ≤ MAX_MESSAGE_LENGTH }
         ensures { OnOk result (self.new ≡ with_byte byte (with_character byte self.old)) }
     {
         self.text.extend_from_slice(&[byte])?;
@@ -296,7 +305,7 @@ impl Reading {
 
     /// Ends the message, and gives it.
     fn end_message(&mut self, end: End) -> Result<RawMessage, AllocError>
-        requires few { self.old.given < 65536 }
+        requires few { self.old.given < MAX_MESSAGES }
         requires text { IsText self.old.text }
         ensures message { IfOk result (λ message. message ≡ open_message self.old end) }
         ensures left { OnOk result (self.new ≡ with_message self.old) }
@@ -321,16 +330,15 @@ impl Reading {
     }
 }
 
-/// Adds a message at the end. Without memory nothing is added.
-fn add_message(messages: &mut Vec<RawMessage>, message: RawMessage) -> Result<(), FeedError>
-    ensures ok { OnOk result (messages.new.items ≡ messages.old.items ++ message ∷ []) }
-    ensures err { OnErr result (messages.new.items ≡ messages.old.items) }
+/// Adds a message at the end. Without memory nothing changes.
+fn add_message(messages: &mut Rows<RawMessage>, message: RawMessage) -> Result<(), FeedError>
+    ensures ok { OnOk result (messages.new ≡ messages.old ++ message ∷ []) }
+    ensures err { OnErr result (messages.new ≡ messages.old) }
     ensures memory { (fault : FrameFault) → result ≢ Err (FeedError.Fault fault) }
 {
-    match messages.push(message) {
-        Ok(()) => Ok(()),
-        Err(_) => Err(FeedError::Memory(AllocError)),
-    }
+    messages
+        .push(message)
+        .map_err(|(_, error)| FeedError::Memory(error))
 }
 
 /// Whether the framing does not allow a byte directly behind the last.
@@ -361,24 +369,24 @@ fn is_between(framing: Framing, byte: u8) -> bool
 fn is_long_segment(length: usize, byte: u8) -> bool
     ensures { result ≡ is_long_segment length byte }
 {
-    is_text_byte(byte) && length >= MAX_SEGMENT
+    is_text_byte(byte) && length >= MAX_SEGMENT_LENGTH
 }
 
 /// Whether a byte is one more character than a message may have, or begins one more segment.
-fn is_long_message(framing: Framing, characters: u32, betweens: usize, byte: u8) -> bool
+fn is_long_message(framing: Framing, characters: usize, betweens: usize, byte: u8) -> bool
     ensures { result ≡ is_long_message framing characters betweens byte }
 {
     match framing {
         Framing::Marks => {
-            (is_text_byte(byte) && characters >= MAX_MESSAGE)
-                || (byte == BETWEEN && betweens as u64 >= u64::from(MAX_MESSAGE) - 1)
+            (is_text_byte(byte) && characters >= MAX_MESSAGE_LENGTH)
+                || (byte == BETWEEN && betweens >= MAX_SEGMENTS - 1)
         }
         Framing::Lines => false,
     }
 }
 
 /// Whether a byte ends one more message than an input may have.
-fn is_too_many(framing: Framing, given: u32, byte: u8) -> bool
+fn is_too_many(framing: Framing, given: usize, byte: u8) -> bool
     ensures { result ≡ is_too_many framing given byte }
 {
     end_of(framing, byte).is_some() && given >= MAX_MESSAGES

@@ -1,38 +1,34 @@
 //! What a terminal is sent, as bytes.
 ghost use Rattle.std.specs.Prelude.{◌≡◌, ◌++◌, OnOk, OnErr, length, take};
-ghost use Rattle.com_msg.specs.Rendering.{line_feeds, rendered_message, rendered_text};
+ghost use Rattle.com_msg.specs.Rendering.{IsRenderable, line_feeds, rendered_message, rendered_text};
 
 use com_msg::{Advance, OutMessage, OutSegment};
 use com_text::Rows;
 use std::alloc::AllocError;
-use std::mem;
 
 const LINE_FEED: u8 = 10;
 
 const FORM_FEED: u8 = 12;
 
-/// Adds the bytes of a message at the end, segment by segment. Err if memory runs out; then nothing
-/// is added.
+/// Adds the bytes of a message at the end, segment by segment. Without memory nothing changes.
 pub fn render(message: &OutMessage, into: &mut Rows<u8>) -> Result<(), AllocError>
+    requires { IsRenderable message.now }
     ensures ok { OnOk result (into.new ≡ into.old ++ rendered_message message.now) }
     ensures err { OnErr result (into.new ≡ into.old) }
 {
-    let alloc = into.allocator();
-    let mut bytes = mem::replace(into, Rows::new(alloc)).into_vec();
-    let before = bytes.len();
-    let added = add_message(message, &mut bytes);
+    let before = into.len();
+    let added = add_message(message, into);
     if added.is_err() {
-        bytes.truncate(before);
+        into.truncate(before);
     }
-    *into = Rows::of_vec(bytes);
     added
 }
 
 /// Adds the bytes of a message at the end. Without memory some of them may have been added.
 #[tactic(auto, using(crate::proofs::Fronts::front_of))]
-fn add_message(message: &OutMessage, bytes: &mut Vec<u8>) -> Result<(), AllocError>
-    ensures ok { OnOk result (bytes.new.items ≡ bytes.old.items ++ rendered_message message.now) }
-    ensures front { take (length bytes.old.items) bytes.new.items ≡ bytes.old.items }
+fn add_message(message: &OutMessage, bytes: &mut Rows<u8>) -> Result<(), AllocError>
+    ensures ok { OnOk result (bytes.new ≡ bytes.old ++ rendered_message message.now) }
+    ensures front { take (length bytes.old) bytes.new ≡ bytes.old }
 {
     for segment in message.segments.as_slice() {
         add_segment(segment, bytes)?;
@@ -42,10 +38,10 @@ fn add_message(message: &OutMessage, bytes: &mut Vec<u8>) -> Result<(), AllocErr
 
 /// Adds the bytes of a segment at the end. Without memory some of them may have been added.
 #[tactic(auto, using(crate::proofs::Fronts::front_of))]
-fn add_segment(segment: &OutSegment, bytes: &mut Vec<u8>) -> Result<(), AllocError>
-    ensures ok { OnOk result (bytes.new.items
-        ≡ bytes.old.items ++ rendered_text segment.now.advance segment.now.text) }
-    ensures front { take (length bytes.old.items) bytes.new.items ≡ bytes.old.items }
+fn add_segment(segment: &OutSegment, bytes: &mut Rows<u8>) -> Result<(), AllocError>
+    ensures ok { OnOk result (bytes.new
+        ≡ bytes.old ++ rendered_text segment.now.advance segment.now.text) }
+    ensures front { take (length bytes.old) bytes.new ≡ bytes.old }
 {
     let text = segment.text.as_bytes();
     match segment.advance {
@@ -70,9 +66,9 @@ fn add_segment(segment: &OutSegment, bytes: &mut Vec<u8>) -> Result<(), AllocErr
 
 /// Adds so many line feeds at the end. Without memory some of them may have been added.
 #[tactic(auto, using(crate::proofs::Fronts::front_of))]
-fn add_line_feeds(lines: u8, bytes: &mut Vec<u8>) -> Result<(), AllocError>
-    ensures ok { OnOk result (bytes.new.items ≡ bytes.old.items ++ line_feeds lines) }
-    ensures front { take (length bytes.old.items) bytes.new.items ≡ bytes.old.items }
+fn add_line_feeds(lines: u8, bytes: &mut Rows<u8>) -> Result<(), AllocError>
+    ensures ok { OnOk result (bytes.new ≡ bytes.old ++ line_feeds lines) }
+    ensures front { take (length bytes.old) bytes.new ≡ bytes.old }
 {
     for _line in 0..lines {
         bytes.extend_from_slice(&[LINE_FEED])?;

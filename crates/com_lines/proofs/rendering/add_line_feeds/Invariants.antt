@@ -4,4 +4,4 @@ use Rattle.com_lines.proofs.rendering.add_line_feeds.Given as goal
 
 -- the line feeds so far
 abbrev pub invariant-loop-line : goal.invariant-loop-line
-invariant-loop-line l = l.bytes.items ≡ l.fn.bytes.items ++ line_feeds l._line
+invariant-loop-line l = l.bytes ≡ l.fn.bytes ++ line_feeds l._line

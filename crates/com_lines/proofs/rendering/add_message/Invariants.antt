@@ -6,4 +6,4 @@ use Rattle.com_lines.proofs.rendering.add_message.Given as goal
 -- the segments so far
 abbrev pub invariant-loop-segment : goal.invariant-loop-segment
 invariant-loop-segment l =
-    l.bytes.items ≡ l.fn.bytes.items ++ flat_map (λ segment. rendered_text segment.advance segment.text) (take l.segment-index l.fn.message.segments)
+    l.bytes ≡ l.fn.bytes ++ flat_map (λ segment. rendered_text segment.advance segment.text) (take l.segment-index l.fn.message.segments)

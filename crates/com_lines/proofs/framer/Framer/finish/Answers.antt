@@ -17,11 +17,11 @@ returns-clause-whole c =
     let state : c.args.self.now.state ≡ Going = ap (λ (f : Framed). f.state) (sym c.self.view_is) ∙ c.in-Going.is in
     let reading = ap (λ (f : Framed). f.reading) (sym c.self.view_is) in
     let old = c.self.inside.reading in
-    on_ok_weaker c.finish_into-result.result (λ whole framing bytes given h. finish-whole framing old c.args.into.now c.finish_into-result.new.into bytes given whole (stands-at framing c.args.self.now Going old bytes given state reading h)) c.finish_into-result.ensures.whole
+    on_ok_weaker c.finish-result.result (λ whole framing bytes given h. finish-whole framing old c.args.into.now c.finish-result.new.messages bytes given whole (stands-at framing c.args.self.now Going old bytes given state reading h)) c.finish-result.ensures.whole
 
 pub returns-clause-fault : goal.returns-clause-fault
 returns-clause-fault c fault e framing bytes given h =
     let state : c.args.self.now.state ≡ Going = ap (λ (f : Framed). f.state) (sym c.self.view_is) ∙ c.in-Going.is in
     let reading = ap (λ (f : Framed). f.reading) (sym c.self.view_is) in
     let at = stands-at framing c.args.self.now Going c.self.inside.reading bytes given state reading h in
-    finish-faulty framing c.self.inside.reading fault bytes given (c.finish_into-result.ensures.fault fault e) at
+    finish-faulty framing c.self.inside.reading fault bytes given (c.finish-result.ensures.fault fault e) at

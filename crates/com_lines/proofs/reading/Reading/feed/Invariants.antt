@@ -7,6 +7,6 @@ abbrev pub invariant-loop-byte : goal.invariant-loop-byte
 invariant-loop-byte l = record {
   safe : IsSafe l.self;
   framing : l.self.framing ≡ l.fn.self.framing;
-  continued : IsContinued l.fn.self (take l.byte-index l.piece) l.fn.messages.items l.self l.messages.items;
-  front : take (length l.fn.messages.items) l.messages.items ≡ l.fn.messages.items;
+  continued : IsContinued l.fn.self (take l.byte-index l.piece) l.fn.messages l.self l.messages;
+  front : take (length l.fn.messages) l.messages ≡ l.fn.messages;
 }

@@ -8,11 +8,11 @@ pub returns-then-not-has_open-clause-whole : goal.returns-then-not-has_open-clau
 returns-then-not-has_open-clause-whole c =
     let may : CanEnd c.args.self.now = c.in_default.ensures.none refl in
     let none : has_open c.args.self.now ≡ false = sym c.has_open.ensures ∙ c.if-not-has_open.true in
-    whole-none c.args.self.now c.args.messages.now.items may.free none
+    whole-none c.args.self.now c.args.messages.now may.free none
 
-pub returns-in-Ok-clause-whole : goal.returns-in-Ok-clause-whole
-returns-in-Ok-clause-whole c =
+pub returns-clause-whole : goal.returns-clause-whole
+returns-clause-whole c =
     let may : CanEnd c.args.self.now = c.in_default.ensures.none refl in
     let some : has_open c.args.self.now ≡ true = sym c.has_open.ensures ∙ c.if-not-has_open.false in
     let (lines, few) = may.open_line some in
-    on_ok_weaker c.add_message.result (λ e. whole-last c.args.self.now c.args.messages.now.items c.add_message.new.messages.items may.free some lines few (rw (← c.in-Ok.ensures.message) e)) c.add_message.ensures.ok
+    on_ok_weaker c.add_message.result (λ e. whole-last c.args.self.now c.args.messages.now c.add_message.new.messages may.free some lines few (rw (← c.in_ok-message.ensures.message) e)) c.add_message.ensures.ok
