@@ -1,5 +1,5 @@
 -- What an adapter makes of any reader and writer.
-use Rattle.std.specs.Prelude.{◌≡◌, ℕ, List, take, Option}
+use Rattle.std.specs.Prelude.{ℕ, List, take, Option}
 use Rattle.std.specs.Io.KnownBytes.{Appends}
 
 -- known bytes grew by a front of these

@@ -60,7 +60,7 @@ abbrev pub with_opening : List ℕ → Bool → Contents → Contents
 with_opening name opened c =
     record c { openings = c.openings ++ record { name = name; opened = opened } ∷ [] }
 
--- An opening is told, whatever came of it. Only one that wanted memory may be untold.
+-- What became of an opening. It is told; only one that wanted memory may be untold.
 abbrev pub IsOpening : {S : Type 0} → List ℕ → Result S StoreFault → Option Contents
     → Option Contents → Type 0
 IsOpening name (Ok _) before after = after ≡ option_map (with_opening name true) before
@@ -115,11 +115,14 @@ IsPartWritten name bytes before after =
     (after ≡ option_map (with_writing name bytes) before)
     ⊎ ((n : ℕ) × (after ≡ option_map (with_part name bytes n) before))
 
--- A write is told, whatever came of it. Only one that wanted memory, and wrote nothing, may be
--- untold.
+-- A write that was not done is told. Only one that wanted memory, and wrote nothing, may be untold.
+abbrev pub IsUndone : StoreFault → List ℕ → List ℕ → Option Contents → Option Contents → Type 0
+IsUndone Failed name bytes before after = IsPartWritten name bytes before after
+IsUndone Memory name bytes before after =
+    (after ≡ before) ⊎ IsPartWritten name bytes before after
+
+-- what became of a write
 abbrev pub IsWriting : {T : Type 0} → List ℕ → List ℕ → Result T StoreFault → Option Contents
     → Option Contents → Type 0
 IsWriting name bytes (Ok _) before after = after ≡ option_map (with_output name bytes) before
-IsWriting name bytes (Err Failed) before after = IsPartWritten name bytes before after
-IsWriting name bytes (Err Memory) before after =
-    (after ≡ before) ⊎ IsPartWritten name bytes before after
+IsWriting name bytes (Err fault) before after = IsUndone fault name bytes before after

@@ -11,7 +11,7 @@ use crate::{Failed, StoreFault};
 use std::io::{self, ErrorKind, Read, Write};
 
 /// The name of standard output.
-const OUTPUT_NAME: &str = "-";
+pub const OUTPUT_NAME: &str = "-";
 
 /// Whether the name is standard output's.
 pub fn is_standard_output(name: &str) -> bool

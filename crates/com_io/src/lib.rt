@@ -31,6 +31,7 @@ mod named;
 mod source;
 mod store;
 
+pub use adapter::OUTPUT_NAME;
 pub use clock::{Clock, FixedClock};
 pub use dir_source::DirSource;
 pub use dir_store::DirStore;
