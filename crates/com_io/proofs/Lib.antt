@@ -1,1 +1,3 @@
 mod NamedLemmas
+mod ReadLemmas
+mod WriteLemmas

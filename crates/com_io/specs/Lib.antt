@@ -1,10 +1,12 @@
+pub mod Adapter
 pub mod Codes
 pub mod Faults
+pub mod Files
 pub mod Folder
 pub mod Listed
 pub mod Named
 pub mod Reading
+pub mod Reads
 pub mod Shelf
-pub mod Sources
 pub mod Stores
 pub use Rattle.com_msg.specs.Stamp

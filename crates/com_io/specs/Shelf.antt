@@ -1,20 +1,19 @@
 -- What a store in memory is, and what each call makes of it.
-use Rattle.std.specs.Prelude.{◌≡◌, ℕ, ◌+◌, ◌-◌, Bool, ◌||◌, ◌==◌, nat_lt, if◌then◌else◌, List, [], ◌∷◌, ◌++◌, take, find, Option, Some, is_none, option_map, unwrap_or, Result, Ok, Err}
+use Rattle.std.specs.Prelude.{◌≡◌, ℕ, ◌+◌, ◌-◌, Bool, true, false, ◌||◌, ◌==◌, nat_lt, if◌then◌else◌, List, [], ◌∷◌, ◌++◌, length, find, Option, Some, is_none, option_map, unwrap_or, Result, Ok, Err}
+use Rattle.std.specs.List.{list_any}
 use Rattle.std.specs.FinMap as map
 use Rattle.com_io.specs.declared.store.StoreFault.{StoreFault}
 use Rattle.com_io.specs.declared.store.StoreFault.TheVariants.{Failed, Memory}
 use Rattle.com_io.specs.declared.memory_store.FailingWrite.{FailingWrite}
-use Rattle.com_io.specs.Listed.{next_count, is_next_listed}
+use Rattle.com_io.specs.Listed.{next_count}
 use Rattle.com_io.specs.Reading.{Reading}
-use Rattle.com_io.specs.Stores.{Named, Contents, closing_of, with_closing, with_output}
+use Rattle.com_io.specs.Stores.{Named, Contents, with_opening, closing_of, with_closing, with_part, with_output}
 
--- what it holds, how many of its sources are open, how often it was called and a call has failed,
--- and which calls fail: openings and writes by number, and reads by number for each file's name
+-- what it holds, how many of its sources are open, how often a call has failed, and which calls
+-- fail: openings and writes by number, and reads by number for each file's name
 pub record Shelf : Type 0 where
   pub held : Contents
   pub pending : ℕ
-  pub opens : ℕ
-  pub writes : ℕ
   pub open_faults : ℕ
   pub read_faults : ℕ
   pub write_faults : ℕ
@@ -25,10 +24,14 @@ pub record Shelf : Type 0 where
 -- nothing was put into it, and no call was made or listed
 abbrev pub empty_shelf : Shelf
 empty_shelf = record {
-  held = record { files = map.empty; outs = map.empty; closed = [] };
+  held = record {
+    files = map.empty;
+    outs = map.empty;
+    openings = [];
+    closed = [];
+    writings = [];
+  };
   pending = 0;
-  opens = 0;
-  writes = 0;
   open_faults = 0;
   read_faults = 0;
   write_faults = 0;
@@ -61,13 +64,17 @@ with_failing_read name k s = record s {
 -- an opening fails where it is listed, or where there is no such file
 abbrev pub is_failing_open : List ℕ → Shelf → Bool
 is_failing_open name s =
-    is_next_listed s.opens s.failing_opens || is_none (map.get s.held.files name)
+    list_any (λ k. k == length s.held.openings + 1) s.failing_opens
+    || is_none (map.get s.held.files name)
 
-abbrev pub after_open : {S : Type 0} → Result S StoreFault → Shelf → Shelf
-after_open (Ok _) s = record s { opens = next_count s.opens; pending = s.pending + 1 }
-after_open (Err Failed) s =
-    record s { opens = next_count s.opens; open_faults = next_count s.open_faults }
-after_open (Err Memory) s = record s { opens = next_count s.opens }
+abbrev pub after_open : {S : Type 0} → List ℕ → Result S StoreFault → Shelf → Shelf
+after_open name (Ok _) s =
+    record s { held = with_opening name true s.held; pending = s.pending + 1 }
+after_open name (Err Failed) s = record s {
+  held = with_opening name false s.held;
+  open_faults = next_count s.open_faults;
+}
+after_open name (Err Memory) s = s
 
 -- The source has the bytes of the file of this name. Its failing reads are those that are listed
 -- for the name.
@@ -87,14 +94,13 @@ after_close r s = record s {
 -- how many bytes the next write writes before it fails, if it is listed
 abbrev pub next_keep : Shelf → Option ℕ
 next_keep s =
-    option_map (λ f. f.keep) (find (λ f. f.number == next_count s.writes) s.failing_writes)
+    option_map (λ f. f.keep)
+    (find (λ f. f.number == length s.held.writings + 1) s.failing_writes)
 
 abbrev pub after_write : {T : Type 0} → List ℕ → List ℕ → Result T StoreFault → Shelf → Shelf
-after_write name bytes (Ok _) s =
-    record s { writes = next_count s.writes; held = with_output name bytes s.held }
+after_write name bytes (Ok _) s = record s { held = with_output name bytes s.held }
 after_write name bytes (Err Failed) s = record s {
-  writes = next_count s.writes;
+  held = with_part name bytes (unwrap_or (next_keep s) 0) s.held;
   write_faults = next_count s.write_faults;
-  held = with_output name (take (unwrap_or (next_keep s) 0) bytes) s.held;
 }
-after_write name bytes (Err Memory) s = record s { writes = next_count s.writes }
+after_write name bytes (Err Memory) s = s

@@ -1,12 +1,9 @@
 //! The files of the current folder, and standard output.
-ghost use Rattle.std.specs.Prelude.{◌≡◌, ◌↔◌, OnOk};
-ghost use Rattle.std.specs.Io.KnownBytes.{Appends};
-ghost use Rattle.std.specs.IoError.{error_kind};
-ghost use Rattle.com_io.specs.Listed.{next_count};
+ghost use Rattle.std.specs.Prelude.{◌≡◌};
 ghost use Rattle.com_io.specs.Folder.{unused_folder};
 
+use crate::adapter::{count_fault, is_standard_output, write_counted};
 use crate::{DirSource, Store, StoreFault};
-use std::io::{ErrorKind, Write};
 use std::marker::Model;
 use std::rt::Files;
 use std::{fs, io};
@@ -53,39 +50,6 @@ impl<R> DirStore<R> {
     }
 }
 
-/// Why a call failed: only want of memory is no fault of the files. A fault is counted.
-fn count_fault(error: &io::Error, count: &mut u64) -> StoreFault
-    ensures memory { (result ≡ StoreFault.Memory)
-        ↔ (error_kind error.now ≡ ErrorKind.OutOfMemory) }
-    ensures failed { result ≡ StoreFault.Failed → count.new ≡ next_count count.old }
-    ensures kept { result ≡ StoreFault.Memory → count.new ≡ count.old }
-{
-    if error.kind() == ErrorKind::OutOfMemory {
-        return StoreFault::Memory;
-    }
-    *count = count.saturating_add(1);
-    StoreFault::Failed
-}
-
-/// Writes all the bytes, and flushes.
-fn write_whole<W: Write>(to: &mut W, bytes: &[u8]) -> io::Result<()>
-    ensures { OnOk result (Appends (W.contents to.old) (W.contents to.new) bytes.now) }
-{
-    to.write_all(bytes)?;
-    to.flush()
-}
-
-impl<R: Files + Print> DirStore<R> {
-    /// Writes to standard output, or to the file of the name, which is made or emptied first.
-    fn write_out(&self, name: &str, bytes: &[u8]) -> io::Result<()> {
-        if name == "-" {
-            return write_whole(&mut io::writer(&self.rt), bytes);
-        }
-        let mut file = fs::create(&self.rt, name)?;
-        write_whole(&mut file, bytes)
-    }
-}
-
 impl<R: Files + Print> Store for DirStore<R>
 where
     R::File: Send,
@@ -124,9 +88,13 @@ where
         self.pending -= 1;
     }
 
+    /// A file is made or emptied before it is written.
     fn write(&mut self, name: &str, bytes: &[u8]) -> Result<(), StoreFault> {
-        match self.write_out(name, bytes) {
-            Ok(()) => Ok(()),
+        if is_standard_output(name) {
+            return write_counted(&mut io::writer(&self.rt), bytes, &mut self.write_faults);
+        }
+        match fs::create(&self.rt, name) {
+            Ok(mut file) => write_counted(&mut file, bytes, &mut self.write_faults),
             Err(error) => Err(count_fault(&error, &mut self.write_faults)),
         }
     }

@@ -1,5 +1,6 @@
 //! A source in memory, which can be told to fail.
 ghost use Rattle.std.specs.Prelude.{◌≡◌, ◌↔◌, length, take, min, IsTrue, IfOk, IsErr};
+ghost use Rattle.std.specs.Io.KnownBytes.{ReadConsumes};
 ghost use Rattle.com_io.specs.Reading.{new_reading, is_failing_read, after_read};
 
 use crate::{Failed, Source};
@@ -87,7 +88,7 @@ impl Source for MemorySource {
         ensures fails { IsErr result ↔ IsTrue (is_failing_read self.old) }
         ensures count { IfOk result (λ n. n ≡ min (length self.old.left) (length into.old)) }
         ensures after { self.new ≡ after_read result self.old }
-        ensures front { IfOk result (λ n. take n into.new ≡ take n self.old.left) }
+        ensures bytes { ReadConsumes (Some self.old.left) (Some self.new.left) result into.new }
     {
         self.reads = self.reads.saturating_add(1);
         if self.failing.contains(&self.reads) {

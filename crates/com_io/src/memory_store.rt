@@ -1,14 +1,22 @@
 //! A store in memory, which can be told to fail. It tells all that it holds.
-ghost use Rattle.std.specs.Prelude.{◌≡◌, ◌≤◌, ◌↔◌, IsSome, IsTrue, IfOk, IfErr, OnOk, OnErr, IsErr, IsErrOf};
+ghost use Rattle.std.specs.Prelude.{◌≡◌, ◌+◌, ◌≤◌, ◌↔◌, ◌⊎◌, length, IsSome, IsTrue, IfOk, OnOk, OnErr, IsErrOf};
 ghost use Rattle.std.specs.Option.{option_copied};
 ghost use Rattle.std.specs.FinMap as finite;
 ghost use Rattle.com_io.specs.Shelf.{empty_shelf, with_file, with_failing_open, with_failing_write, with_failing_read, is_failing_open, after_open, IsNewReading, after_close, next_keep, after_write};
-ghost use Rattle.com_io.specs.Stores.{with_output};
+ghost use Rattle.com_io.specs.Stores.{outs_with_output};
 
+use crate::adapter::is_standard_output;
 use crate::named::Named;
 use crate::{MemorySource, Store, StoreFault};
 use std::alloc::{AllocError, Global};
 use std::marker::Model;
+
+/// An opening that was asked for, and whether it answered Ok.
+#[derive(Debug, Drop)]
+struct Opening {
+    name: String,
+    opened: bool,
+}
 
 /// How a source was closed: the bytes that it had left, and whether it had failed.
 #[derive(Clone, Copy, Debug, PartialEq, Eq)]
@@ -17,6 +25,13 @@ struct Closing {
     left: usize,
     /// Whether a read of it had failed.
     failed: bool,
+}
+
+/// A write that was asked for.
+#[derive(Debug, Drop)]
+struct Writing {
+    name: String,
+    bytes: Vec<u8>,
 }
 
 /// A write that fails, by its number, and how many bytes it writes before.
@@ -36,14 +51,14 @@ pub struct MemoryStore {
     files: Named<u8>,
     /// What was written.
     outs: Named<u8>,
+    /// Each opening that was asked for, in order.
+    openings: Vec<Opening>,
     /// Each closing, in order.
     closed: Vec<Closing>,
+    /// Each write that was asked for, in order.
+    writings: Vec<Writing>,
     /// How many sources are open.
     pending: usize,
-    /// How often it was asked to open.
-    opens: u64,
-    /// How often it was asked to write.
-    writes: u64,
     /// How often an opening has failed.
     open_faults: u64,
     /// How many closed sources had failed.
@@ -58,7 +73,7 @@ pub struct MemoryStore {
 }
 
 impl Model for MemoryStore {
-    ghost use Rattle.std.specs.Prelude.{◌+◌, ◌≤◌, map, vec_len, vec_capacity};
+    ghost use Rattle.std.specs.Prelude.{◌+◌, ◌≤◌, map, string_bytes, vec_len, vec_capacity};
     ghost use Rattle.com_io.specs.Shelf.{Shelf};
     ghost use Rattle.com_io.specs.Codes.{shelf_code};
 
@@ -70,11 +85,13 @@ impl Model for MemoryStore {
       held = record {
         files = s.files;
         outs = s.outs;
+        openings =
+            map (λ o. record { name = string_bytes o.name; opened = o.opened }) s.openings.items;
         closed = map (λ c. record { left = c.left; failed = c.failed }) s.closed.items;
+        writings =
+            map (λ w. record { name = string_bytes w.name; bytes = w.bytes.items }) s.writings.items;
       };
       pending = s.pending;
-      opens = s.opens;
-      writes = s.writes;
       open_faults = s.open_faults;
       read_faults = s.read_faults;
       write_faults = s.write_faults;
@@ -94,10 +111,10 @@ impl Drop for MemoryStore {
             alloc: _,
             files: _,
             outs: _,
+            openings: _,
             closed: _,
+            writings: _,
             pending: _,
-            opens: _,
-            writes: _,
             open_faults: _,
             read_faults: _,
             write_faults: _,
@@ -117,10 +134,10 @@ impl MemoryStore {
             alloc,
             files: Named::new(alloc),
             outs: Named::new(alloc),
+            openings: Vec::new(alloc),
             closed: Vec::new(alloc),
+            writings: Vec::new(alloc),
             pending: 0,
-            opens: 0,
-            writes: 0,
             open_faults: 0,
             read_faults: 0,
             write_faults: 0,
@@ -174,11 +191,25 @@ impl MemoryStore {
         self.outs.get(name)
     }
 
+    /// The number of the next opening, from 1.
+    fn next_opening(&self) -> u64
+        ensures { result ≡ length self.now.held.openings + 1 }
+    {
+        self.openings.len() as u64 + 1
+    }
+
+    /// The number of the next write, from 1.
+    fn next_writing(&self) -> u64
+        ensures { result ≡ length self.now.held.writings + 1 }
+    {
+        self.writings.len() as u64 + 1
+    }
+
     /// Whether the next opening of the name fails.
     fn is_failing_open(&self, name: &str) -> bool
         ensures { result ≡ is_failing_open name.now self.now }
     {
-        let number = self.opens.saturating_add(1);
+        let number = self.next_opening();
         self.failing_opens.contains(&number) || self.files.get(name).is_none()
     }
 
@@ -186,7 +217,7 @@ impl MemoryStore {
     fn next_keep(&self) -> Option<usize>
         ensures { result ≡ next_keep self.now }
     {
-        let number = self.writes.saturating_add(1);
+        let number = self.next_writing();
         let write = self.failing_writes.iter().find(|f| f.number == number)?;
         Some(write.keep)
     }
@@ -203,19 +234,22 @@ impl MemoryStore {
             failing.unwrap_or(Vec::new(self.alloc)),
         ))
     }
+}
 
-    /// Writes out the bytes.
-    fn write_out(&mut self, name: &str, bytes: &[u8]) -> Result<(), StoreFault>
-        ensures ok { OnOk result (self.new
-            ≡ record self.old { held = with_output name.now bytes.now self.old.held }) }
-        ensures err { IfErr result (λ fault. (fault ≡ StoreFault.Memory) × (self.new ≡ self.old)) }
-    {
-        let written = if name == "-" {
-            self.outs.append(self.alloc, name, bytes)
-        } else {
-            self.outs.insert(self.alloc, name, bytes)
-        };
-        written.map_err(|_| StoreFault::Memory)
+/// Adds the bytes to what stands under the name, if it is standard output's, or puts them there.
+fn write_out(
+    alloc: Global,
+    outs: &mut Named<u8>,
+    name: &str,
+    bytes: &[u8],
+) -> Result<(), AllocError>
+    ensures ok { OnOk result (outs.new ≡ outs_with_output name.now bytes.now outs.old) }
+    ensures err { OnErr result (outs.new ≡ outs.old) }
+{
+    if is_standard_output(name) {
+        outs.append(alloc, name, bytes)
+    } else {
+        outs.insert(alloc, name, bytes)
     }
 }
 
@@ -232,25 +266,27 @@ impl Store for MemoryStore {
       write_faults = s.write_faults;
     } };
 
-    /// Fails exactly where it is listed, or where there is no such file.
+    /// With memory it fails exactly where it is listed, or where there is no such file. Without
+    /// memory nothing changes.
     fn open(&mut self, name: &str) -> Result<MemorySource, StoreFault>
-        ensures fails { IsErrOf result StoreFault.Failed
-            ↔ IsTrue (is_failing_open name.now self.old) }
-        ensures after { self.new ≡ after_open result self.old }
+        ensures fails { IsErrOf result StoreFault.Memory
+            ⊎ (IsErrOf result StoreFault.Failed ↔ IsTrue (is_failing_open name.now self.old)) }
+        ensures after { self.new ≡ after_open name.now result self.old }
         ensures opened { IfOk result (IsNewReading name.now self.old) }
     {
-        let fails = self.is_failing_open(name);
-        self.opens = self.opens.saturating_add(1);
-        if fails {
+        let opened = !self.is_failing_open(name);
+        let opening = Opening {
+            name: String::from_str(self.alloc, name)?,
+            opened,
+        };
+        if !opened {
+            self.openings.push(opening)?;
             self.open_faults = self.open_faults.saturating_add(1);
             return Err(StoreFault::Failed);
         }
-        let Ok(source) = self.new_source(name) else {
-            return Err(StoreFault::Memory);
-        };
-        if self.closed.reserve(self.pending + 1).is_err() {
-            return Err(StoreFault::Memory);
-        }
+        let source = self.new_source(name)?;
+        self.closed.reserve(self.pending + 1)?;
+        self.openings.push(opening)?;
         self.pending += 1;
         Ok(source)
     }
@@ -270,18 +306,29 @@ impl Store for MemoryStore {
         self.pending -= 1;
     }
 
-    /// Fails exactly where it is listed. It has then written the bytes that it keeps.
+    /// With memory it fails exactly where it is listed, and has then written the bytes that it
+    /// keeps. Without memory nothing changes.
     fn write(&mut self, name: &str, bytes: &[u8]) -> Result<(), StoreFault>
-        ensures listed { IsSome (next_keep self.old) → IsErr result }
-        ensures fails { IsErrOf result StoreFault.Failed → IsSome (next_keep self.old) }
+        ensures fails { IsErrOf result StoreFault.Memory
+            ⊎ (IsErrOf result StoreFault.Failed ↔ IsSome (next_keep self.old)) }
         ensures after { self.new ≡ after_write name.now bytes.now result self.old }
     {
         let kept = self.next_keep();
-        self.writes = self.writes.saturating_add(1);
-        let Some(keep) = kept else {
-            return self.write_out(name, bytes);
+        let front = match kept {
+            Some(keep) => &bytes[..keep.min(bytes.len())],
+            None => bytes,
         };
-        self.write_out(name, &bytes[..keep.min(bytes.len())])?;
+        let writing = Writing {
+            name: String::from_str(self.alloc, name)?,
+            bytes: Vec::from_slice(self.alloc, bytes)?,
+        };
+        self.writings.reserve(1)?;
+        write_out(self.alloc, &mut self.outs, name, front)?;
+        // There is room for it.
+        let _ = self.writings.push(writing);
+        if kept.is_none() {
+            return Ok(());
+        }
         self.write_faults = self.write_faults.saturating_add(1);
         Err(StoreFault::Failed)
     }

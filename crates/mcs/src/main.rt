@@ -1,9 +1,20 @@
 //! The program `mcs`: a message control system over the files of the current folder.
+//!
+//! Its command is the words behind its name, and its exit code is the status that
+//! [`mcs_top::mcs`] answers to them:
+//!
+//! ```text
+//! mcs replay net.toml script.txt
+//! ```
 #![tactic(auto)]
 
-use com_io::{DirStore, FixedClock};
+ghost use Rattle.std.specs.Prelude.{◌≡◌, drop, map, string_bytes};
+ghost use Rattle.std.specs.Process.{exit_status};
+ghost use Rattle.mcs_top.specs.Replay.{IsOutcome};
+
+use com_io::{Clock, DirStore, FixedClock, Store};
 use com_msg::Stamp;
-use std::alloc::AllocError;
+use std::alloc::{AllocError, Global};
 use std::process::ExitCode;
 use std::{env, io};
 
@@ -11,35 +22,46 @@ use std::{env, io};
 const OUT_OF_MEMORY: u8 = 1;
 
 fn main(rt: HostRuntime) -> ExitCode {
-    let alloc = rt.alloc();
-    let Ok(words) = command_words(&rt) else {
+    let Ok(arguments) = arguments(&rt) else {
         return ExitCode::from(OUT_OF_MEMORY);
     };
     // No command asks for the time yet.
     let Some(stamp) = Stamp::new(b"740601", b"10203000") else {
         return ExitCode::from(OUT_OF_MEMORY);
     };
-    let status = mcs_top::mcs(
-        alloc,
-        words.as_slice(),
-        &mut DirStore::new(&rt),
-        &FixedClock { stamp },
-    );
-    ExitCode::from(status)
+    let clock = FixedClock { stamp };
+    command(rt.alloc(), &arguments, &mut DirStore::new(&rt), &clock)
 }
 
-/// The words after the program's name. Words that are no text make no command, and are left out
-/// together.
-fn command_words(rt: &HostRuntime) -> Result<Vec<String>, AllocError> {
+/// Does the command of a program's arguments, and answers its exit code.
+fn command<S: Store, C: Clock + Sync>(
+    alloc: Global,
+    arguments: &[String],
+    store: &mut S,
+    clock: &C,
+) -> ExitCode
+    ensures { IsOutcome (drop 1 (map string_bytes arguments.now)) (exit_status result)
+        (S.shows store.old) (S.shows store.new) }
+{
+    ExitCode::from(mcs_top::mcs(alloc, words_of(arguments), store, clock))
+}
+
+/// The words of the command: all arguments but the first, which is the program's name.
+fn words_of(arguments: &[String]) -> &[String]
+    ensures { result.now ≡ drop 1 arguments.now }
+{
+    match arguments {
+        [_name, words @ ..] => words,
+        [] => &[],
+    }
+}
+
+/// The arguments of the process, its name first. If one is not UTF-8, there are none.
+fn arguments(rt: &HostRuntime) -> Result<Vec<String>, AllocError> {
     let alloc = rt.alloc();
     match env::args(rt) {
-        Ok(words) => words.skip(1).collect(alloc),
-        Err(error) => {
-            if error.kind() == io::ErrorKind::OutOfMemory {
-                Err(AllocError)
-            } else {
-                Ok(Vec::new(alloc))
-            }
-        }
+        Ok(arguments) => arguments.collect(alloc),
+        Err(error) if error.kind() == io::ErrorKind::OutOfMemory => Err(AllocError),
+        Err(_) => Ok(Vec::new(alloc)),
     }
 }

@@ -1,5 +1,4 @@
 mod CallTexts
-mod Chunks
 mod Documents
 mod LineParts
 mod Lines

@@ -1,6 +1,9 @@
 -- Why a command is not done, for the private functions that do it.
 use Rattle.std.specs.Prelude.{◌≡◌, ℕ, ◌⊎◌, List, option_map}
+use Rattle.com_io.specs.declared.store.StoreFault.{StoreFault}
+use Rattle.com_io.specs.declared.store.StoreFault.TheVariants as cause
 use Rattle.com_io.specs.Faults.{Rose}
+use Rattle.com_io.specs.Files.{IsRead, IsAbandoned, HasNoFault}
 use Rattle.com_io.specs.Stores.{Shown}
 use Rattle.mcs_top.specs.declared.net.Net.{Net}
 use Rattle.mcs_top.specs.declared.events.Entry.{Entry}
@@ -9,16 +12,16 @@ use Rattle.mcs_top.specs.declared.replay.Refusal.{Refusal}
 use Rattle.mcs_top.specs.declared.replay.Refusal.TheVariants.{Usage, Description, Unread, Script}
 use Rattle.mcs_top.specs.declared.replay.Fault.{Fault}
 use Rattle.mcs_top.specs.declared.replay.Fault.TheVariants.{Refused, Write, Memory}
-use Rattle.mcs_top.specs.Files.{IsRead, IsUnwritten, HasNoFault}
+use Rattle.mcs_top.specs.Files.{file_limit}
 use Rattle.mcs_top.specs.Journal.{IsJournal}
-use Rattle.mcs_top.specs.Outputs.{outputs, contents_after, IsPartlyWritten}
+use Rattle.mcs_top.specs.Outputs.{outputs, contents_after, StopsAtWrite}
 use Rattle.mcs_top.specs.Refusal.{IsRefused}
-use Rattle.mcs_top.specs.Replay.{IsNotRead, IsBadDescription, HasStopped, HasRunShort, IsUsage, IsDescriptionRefused, IsFileUnread, IsScriptRefused, OfReplay, usage_report, description_report, unreadable_report, script_report}
+use Rattle.mcs_top.specs.Replay.{IsNotRead, IsBadDescription, HasStopped, HasRunShort, HasGivenUp, IsUsage, IsDescriptionRefused, IsFileUnread, IsScriptRefused, OfReplay, usage_report, description_report, unreadable_report, script_report}
 
 -- the file of this name was not read
 abbrev pub IsNotReadFor : List ℕ → Shown → Shown → Fault → Type 0
-IsNotReadFor name before after (Refused (Unread told)) = (told.now ≡ name) × IsNotRead before after
-IsNotReadFor name before after Memory = IsUnwritten before after
+IsNotReadFor name before after (Refused (Unread told)) = (told.now ≡ name) × IsNotRead name before after
+IsNotReadFor name before after Memory = IsAbandoned file_limit name before after
 IsNotReadFor name before after (Refused Usage) = ⊥
 IsNotReadFor name before after (Refused Description) = ⊥
 IsNotReadFor name before after (Refused (Script line reason)) = ⊥
@@ -27,11 +30,13 @@ IsNotReadFor name before after Write = ⊥
 -- a description that was read and is refused
 abbrev pub IsRefusedNet : List ℕ → Shown → Shown → Type 0
 IsRefusedNet name before after =
-    (description : List ℕ) × IsRead name description before after × IsBadDescription description
+    (description : List ℕ) × IsRead file_limit name description before after
+    × IsBadDescription description
 
 abbrev pub IsNetFault : List ℕ → Shown → Shown → Fault → Type 0
-IsNetFault name before after (Refused (Unread told)) = (told.now ≡ name) × IsNotRead before after
-IsNetFault name before after Memory = IsUnwritten before after
+IsNetFault name before after (Refused (Unread told)) =
+    (told.now ≡ name) × IsNotRead name before after
+IsNetFault name before after Memory = IsAbandoned file_limit name before after
 IsNetFault name before after (Refused Usage) = ⊥
 IsNetFault name before after (Refused Description) = IsRefusedNet name before after
 IsNetFault name before after (Refused (Script line reason)) = ⊥
@@ -40,12 +45,13 @@ IsNetFault name before after Write = ⊥
 -- a script that was read and is refused
 abbrev pub IsRefusedScript : List ℕ → Net → Shown → Shown → ℕ → Reason → Type 0
 IsRefusedScript name net before after line reason =
-    (script : List ℕ) × IsRead name script before after × IsRefused net script line reason
+    (script : List ℕ) × IsRead file_limit name script before after
+    × IsRefused net script line reason
 
 abbrev pub IsScriptFault : List ℕ → Net → Shown → Shown → Fault → Type 0
 IsScriptFault name net before after (Refused (Unread told)) =
-    (told.now ≡ name) × IsNotRead before after
-IsScriptFault name net before after Memory = IsUnwritten before after
+    (told.now ≡ name) × IsNotRead name before after
+IsScriptFault name net before after Memory = IsAbandoned file_limit name before after
 IsScriptFault name net before after (Refused Usage) = ⊥
 IsScriptFault name net before after (Refused Description) = ⊥
 IsScriptFault name net before after (Refused (Script line reason)) =
@@ -59,19 +65,26 @@ HasWritten net history before after =
     × (after.contents ≡ option_map (contents_after (outputs net history journal)) before.contents)
     × HasNoFault before after
 
--- only some were
-abbrev pub HasPartlyWritten : Net → List Entry → Shown → Shown → Type 0
-HasPartlyWritten net history before after =
-    (journal : List ℕ) × IsJournal history journal × IsPartlyWritten (outputs net history journal)
-    before.contents after.contents
+-- only some were, up to one that was not done
+abbrev pub HasPartlyWritten : StoreFault → Net → List Entry → Shown → Shown → Type 0
+HasPartlyWritten fault net history before after =
+    (journal : List ℕ) × IsJournal history journal
+    × StopsAtWrite fault (outputs net history journal) before.contents after.contents
 
+-- a write failed, and that alone was counted
+pub record HasFailedWrite (net : Net) (history : List Entry) (before after : Shown) : Type 0 where
+  pub part : HasPartlyWritten cause.Failed net history before after
+  pub rose : Rose before.write_faults after.write_faults
+  pub open_faults : after.open_faults ≡ before.open_faults
+  pub read_faults : after.read_faults ≡ before.read_faults
+
+-- want of memory came before the first write, or in one
 abbrev pub IsWriteFault : Net → List Entry → Shown → Shown → Fault → Type 0
 IsWriteFault net history before after (Refused refusal) = ⊥
 IsWriteFault net history before after Memory =
-    IsUnwritten before after
-    ⊎ (HasPartlyWritten net history before after × (after.write_faults ≡ before.write_faults))
-IsWriteFault net history before after Write =
-    HasPartlyWritten net history before after × Rose before.write_faults after.write_faults
+    (after ≡ before)
+    ⊎ (HasPartlyWritten cause.Memory net history before after × HasNoFault before after)
+IsWriteFault net history before after Write = HasFailedWrite net history before after
 
 -- what the store showed when this report was due
 abbrev pub IsDue : Shown → List ℕ → Shown → List ℕ → Type 0
@@ -90,7 +103,7 @@ abbrev pub HasFailed : List ℕ → List ℕ → Shown → Shown → Fault → T
 HasFailed net_file script_file before after (Refused refusal) =
     IsReplayRefusal net_file script_file before after refusal
 HasFailed net_file script_file before after Memory =
-    IsUnwritten before after ⊎ HasRunShort before after net_file script_file
+    HasGivenUp before after net_file script_file ⊎ HasRunShort before after net_file script_file
 HasFailed net_file script_file before after Write = HasStopped before after net_file script_file
 
 abbrev pub report_of : Refusal → List ℕ
@@ -117,5 +130,5 @@ IsWordsRefusal words before tried (Script line reason) =
 abbrev pub IsCommandFault : List (List ℕ) → Shown → Shown → Fault → Type 0
 IsCommandFault words before after (Refused refusal) = IsWordsRefusal words before after refusal
 IsCommandFault words before after Memory =
-    IsUnwritten before after ⊎ OfReplay words (HasRunShort before after)
+    OfReplay words (HasGivenUp before after) ⊎ OfReplay words (HasRunShort before after)
 IsCommandFault words before after Write = OfReplay words (HasStopped before after)

@@ -6,7 +6,6 @@ pub mod Journal
 pub mod Script
 pub mod Writing
 pub mod Files
-pub mod Reads
 pub mod Outputs
 pub mod Replay
 pub mod Refusal

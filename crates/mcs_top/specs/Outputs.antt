@@ -1,6 +1,7 @@
 -- What a run writes: the journal, a transcript for the terminal, and a summary.
 use Rattle.std.specs.Prelude.{◌≡◌, ℕ, Bool, true, false, List, [], ◌∷◌, ◌++◌, length, Option, option_map, codes, decimal, count_by}
-use Rattle.com_io.specs.Stores.{Contents, with_output, IsPartWritten}
+use Rattle.com_io.specs.declared.store.StoreFault.{StoreFault}
+use Rattle.com_io.specs.Stores.{Contents, Writing, output_name, with_output, IsUndone}
 use Rattle.com_state.specs.State.{Finished}
 use Rattle.com_state.specs.Transcripts.{sent_by, transcript_of}
 use Rattle.mcs_top.specs.declared.net.Net.{Net}
@@ -62,26 +63,24 @@ journal_name = codes "journal.txt"
 abbrev pub transcript_name : List ℕ → List ℕ
 transcript_name terminal = terminal ++ codes ".out"
 
--- standard output
-abbrev pub output_name : List ℕ
-output_name = codes "-"
-
--- all that is written, as names and bytes, in this order
-abbrev pub outputs : Net → List Entry → List ℕ → List (List ℕ × List ℕ)
+-- all that is written, in this order
+abbrev pub outputs : Net → List Entry → List ℕ → List Writing
 outputs net history journal =
-    (journal_name, journal) ∷ (transcript_name net.terminal.name, transcript net history)
-    ∷ (output_name, summary net history) ∷ []
+    record { name = journal_name; bytes = journal }
+    ∷ record { name = transcript_name net.terminal.name; bytes = transcript net history }
+    ∷ record { name = output_name; bytes = summary net history } ∷ []
 
 -- the contents after some writes, one after another
-abbrev pub contents_after : List (List ℕ × List ℕ) → Contents → Contents
+abbrev pub contents_after : List Writing → Contents → Contents
 contents_after [] c = c
-contents_after (write ∷ writes) c = contents_after writes (with_output write.0 write.1 c)
+contents_after (write ∷ writes) c = contents_after writes (with_output write.name write.bytes c)
 
--- Some of the writes were done, in order, and then one of them in part or not at all.
-pub record IsPartlyWritten (writes : List (List ℕ × List ℕ))
+-- Some of the writes were done, in order. The next one was not, and it is the last that was asked
+-- for.
+pub record StopsAtWrite (fault : StoreFault) (writes : List Writing)
     (before after : Option Contents) : Type 0 where
-  pub done : List (List ℕ × List ℕ)
-  pub next : List ℕ × List ℕ
-  pub rest : List (List ℕ × List ℕ)
+  pub done : List Writing
+  pub next : Writing
+  pub rest : List Writing
   pub split : writes ≡ done ++ next ∷ rest
-  pub part : IsPartWritten next.0 next.1 (option_map (contents_after done) before) after
+  pub undone : IsUndone fault next.name next.bytes (option_map (contents_after done) before) after

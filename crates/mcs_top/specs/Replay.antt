@@ -1,12 +1,15 @@
 -- What `replay` does, by the words it is given and what the store holds before and after.
 use Rattle.std.specs.Prelude.{◌≡◌, ℕ, ◌<◌, ◌≤◌, ◌⊎◌, Bool, not, ◌&&◌, ◌||◌, ◌==◌, nat_lt, List, [], ◌∷◌, ◌++◌, length, slice_index, option_map, IsTrue, codes, decimal}
+use Rattle.com_io.specs.declared.store.StoreFault.{StoreFault}
+use Rattle.com_io.specs.declared.store.StoreFault.TheVariants.{Failed, Memory}
 use Rattle.com_io.specs.Faults.{Rose}
-use Rattle.com_io.specs.Stores.{Shown, with_output, IsPartWritten}
+use Rattle.com_io.specs.Files.{IsRead, IsUnopened, IsUnreadable, IsAbandoned, HasNoFault}
+use Rattle.com_io.specs.Stores.{Shown, output_name, with_output, IsPartWritten, IsUndone}
 use Rattle.mcs_top.specs.declared.net.Net.{Net}
 use Rattle.mcs_top.specs.declared.events.Entry.{Entry}
 use Rattle.mcs_top.specs.declared.script.Reason.{Reason}
 use Rattle.mcs_top.specs.declared.script.Reason.TheVariants.{Size, Text, NotYet, NotAllowed}
-use Rattle.mcs_top.specs.Files.{file_limit, IsRead, IsUnopened, IsUnreadable, IsUnwritten, HasNoFault}
+use Rattle.mcs_top.specs.Files.{file_limit}
 use Rattle.mcs_top.specs.Network.{Describes}
 use Rattle.com_state.specs.Histories.{Legal, IsRun}
 use Rattle.com_state.specs.Wholeness.{Whole, InOrder}
@@ -14,7 +17,7 @@ use Rattle.mcs_top.specs.Model.{model_net, model_history}
 use Rattle.mcs_top.specs.Journal.{IsJournal}
 use Rattle.mcs_top.specs.Script.{MakesCallsOf}
 use Rattle.mcs_top.specs.Refusal.{IsRefused}
-use Rattle.mcs_top.specs.Outputs.{outputs, output_name, contents_after, IsPartlyWritten}
+use Rattle.mcs_top.specs.Outputs.{outputs, contents_after, StopsAtWrite}
 
 -- a word that names a file: not empty, and not beginning with a hyphen
 abbrev pub is_file_word : List ℕ → Bool
@@ -35,7 +38,7 @@ pub record OfReplay (words : List (List ℕ)) (P : List ℕ → List ℕ → Typ
 -- NET was read, and describes this network.
 pub record IsNetRead (net_file : List ℕ) (before read : Shown) (net : Net) : Type 0 where
   pub description : List ℕ
-  pub is_read : IsRead net_file description before read
+  pub is_read : IsRead file_limit net_file description before read
   pub short : length description ≤ file_limit
   pub described : Describes description net
 
@@ -44,7 +47,7 @@ pub record IsNetRead (net_file : List ℕ) (before read : Shown) (net : Net) : T
 pub record IsScriptDone (script_file : List ℕ) (net : Net) (before read : Shown)
     (history : List Entry) : Type 0 where
   pub script : List ℕ
-  pub is_read : IsRead script_file script before read
+  pub is_read : IsRead file_limit script_file script before read
   pub short : length script ≤ file_limit
   pub calls : MakesCallsOf script history
   pub legal : Legal (model_net net) (model_history history)
@@ -52,8 +55,8 @@ pub record IsScriptDone (script_file : List ℕ) (net : Net) (before read : Show
   pub whole : Whole (model_net net) (model_history history)
   pub in_order : InOrder (model_net net) (model_history history)
 
--- Both files were read and closed, and all that the store shows else is as before; the journal is
--- that of the history of the script's calls.
+-- NET was read and then SCRIPT, and nothing else was asked for; the journal is that of the history
+-- of the script's calls.
 pub record IsPerformed (net_file script_file : List ℕ) (before read : Shown) (net : Net)
     (history : List Entry) (journal : List ℕ) : Type 0 where
   pub between : Shown
@@ -61,8 +64,8 @@ pub record IsPerformed (net_file script_file : List ℕ) (before read : Shown) (
   pub script_done : IsScriptDone script_file net between read history
   pub journal_text : IsJournal history journal
 
--- The history was written as the journal, with the transcript and the summary, and nothing else
--- changed but that both files were read and closed. No fault was counted.
+-- Both files were read. Then the journal, the transcript and the summary of the history were
+-- written, each in one write, and nothing else was asked for. No fault was counted.
 pub record HasReplayed (before after : Shown) (net_file script_file : List ℕ) : Type 0 where
   pub net : Net
   pub history : List Entry
@@ -73,29 +76,45 @@ pub record HasReplayed (before after : Shown) (net_file script_file : List ℕ) 
       read.contents
   pub no_fault : HasNoFault before after
 
--- A write of the outputs did not go through. The history is as where all is written, and what was
--- written is a prefix of what was to be written.
-pub record IsCutShort (before after : Shown) (net_file script_file : List ℕ) : Type 0 where
+-- The history is as where all is written, and the writes are those, up to one that was not done: the
+-- last that was asked for.
+pub record IsCutShort (fault : StoreFault) (before after : Shown)
+    (net_file script_file : List ℕ) : Type 0 where
   pub net : Net
   pub history : List Entry
   pub journal : List ℕ
   pub read : Shown
   pub performed : IsPerformed net_file script_file before read net history journal
-  pub contents : IsPartlyWritten (outputs net history journal) read.contents after.contents
+  pub contents : StopsAtWrite fault (outputs net history journal) read.contents after.contents
 
--- The store counts a write that failed.
-abbrev pub HasStopped : Shown → Shown → List ℕ → List ℕ → Type 0
-HasStopped before after net_file script_file =
-    IsCutShort before after net_file script_file × Rose before.write_faults after.write_faults
+-- A write failed, and the store counts that alone.
+pub record HasStopped (before after : Shown) (net_file script_file : List ℕ) : Type 0 where
+  pub cut_short : IsCutShort Failed before after net_file script_file
+  pub rose : Rose before.write_faults after.write_faults
+  pub open_faults : after.open_faults ≡ before.open_faults
+  pub read_faults : after.read_faults ≡ before.read_faults
 
--- No failed write was counted.
-abbrev pub HasRunShort : Shown → Shown → List ℕ → List ℕ → Type 0
-HasRunShort before after net_file script_file =
-    IsCutShort before after net_file script_file × (after.write_faults ≡ before.write_faults)
+-- A write wanted memory, and no fault was counted.
+pub record HasRunShort (before after : Shown) (net_file script_file : List ℕ) : Type 0 where
+  pub cut_short : IsCutShort Memory before after net_file script_file
+  pub no_fault : HasNoFault before after
 
--- What a report's write changed from what the store showed before it: it was written to standard
--- output, or a prefix of it where that write failed; nothing else was written, and no other fault
--- was counted.
+-- SCRIPT was at most begun, behind NET, which was read and describes a network.
+pub record IsScriptAbandoned (before after : Shown) (net_file script_file : List ℕ) : Type 0 where
+  pub between : Shown
+  pub net : Net
+  pub net_read : IsNetRead net_file before between net
+  pub abandoned : IsAbandoned file_limit script_file between after
+
+-- No more than the two files was asked for, in their order, and no fault was counted.
+abbrev pub HasGivenUp : Shown → Shown → List ℕ → List ℕ → Type 0
+HasGivenUp before after net_file script_file =
+    IsAbandoned file_limit net_file before after
+    ⊎ IsScriptAbandoned before after net_file script_file
+
+-- What the write of a report, which is one write to standard output, changed from what the store
+-- showed before it: the report was written, or a front of it where that write failed. Nothing else
+-- was asked for, and no other fault was counted.
 pub record IsReported (after tried : Shown) (report : List ℕ) : Type 0 where
   pub written : ((after.contents ≡ option_map (with_output output_name report) tried.contents)
       × (after.write_faults ≡ tried.write_faults))
@@ -104,9 +123,9 @@ pub record IsReported (after tried : Shown) (report : List ℕ) : Type 0 where
   pub open_faults : after.open_faults ≡ tried.open_faults
   pub read_faults : after.read_faults ≡ tried.read_faults
 
--- A prefix of this line was written, or nothing, and no fault was counted.
+-- The write of a report wanted memory, or was not asked for. No fault was counted.
 pub record IsCutReport (after tried : Shown) (report : List ℕ) : Type 0 where
-  pub written : IsPartWritten output_name report tried.contents after.contents
+  pub undone : IsUndone Memory output_name report tried.contents after.contents
   pub no_fault : HasNoFault tried after
 
 abbrev pub usage_report : List ℕ
@@ -145,19 +164,21 @@ pub record IsDescriptionRefused (before : Shown) (Told : Shown → List ℕ → 
     (net_file script_file : List ℕ) : Type 0 where
   pub description : List ℕ
   pub read : Shown
-  pub is_read : IsRead net_file description before read
+  pub is_read : IsRead file_limit net_file description before read
   pub refused : IsBadDescription description
   pub told : Told read description_report
 
--- a file was not opened, or a read of it failed
-abbrev pub IsNotRead : Shown → Shown → Type 0
-IsNotRead before after = IsUnopened before after ⊎ IsUnreadable before after
+-- The file of this name was asked for and not opened, or a read of it failed. Nothing else was asked
+-- for.
+abbrev pub IsNotRead : List ℕ → Shown → Shown → Type 0
+IsNotRead name before after =
+    IsUnopened name before after ⊎ IsUnreadable file_limit name before after
 
 -- NET could not be read.
 pub record IsNetUnread (before : Shown) (Told : Shown → List ℕ → Type 0)
     (net_file : List ℕ) : Type 0 where
   pub tried : Shown
-  pub unread : IsNotRead before tried
+  pub unread : IsNotRead net_file before tried
   pub told : Told tried (unreadable_report net_file)
 
 -- NET was read, and SCRIPT could not be.
@@ -167,7 +188,7 @@ pub record IsScriptUnread (before : Shown) (Told : Shown → List ℕ → Type 0
   pub net : Net
   pub net_read : IsNetRead net_file before between net
   pub tried : Shown
-  pub unread : IsNotRead between tried
+  pub unread : IsNotRead script_file between tried
   pub told : Told tried (unreadable_report script_file)
 
 abbrev pub IsFileUnread : Shown → (Shown → List ℕ → Type 0) → List ℕ → List ℕ → Type 0
@@ -182,7 +203,7 @@ pub record IsScriptRefused (before : Shown) (Told : Shown → List ℕ → Type 
   pub net_read : IsNetRead net_file before between net
   pub script : List ℕ
   pub read : Shown
-  pub is_read : IsRead script_file script between read
+  pub is_read : IsRead file_limit script_file script between read
   pub line : ℕ
   pub reason : Reason
   pub refused : IsRefused net script line reason
@@ -196,12 +217,25 @@ IsRefusedAtAll words before Told =
     ⊎ (OfReplay words (IsFileUnread before Told)
     ⊎ OfReplay words (IsScriptRefused before Told)))
 
--- Memory ran out: before anything was written, in the write of a report, or in the writes of the
--- outputs.
+-- Memory ran out: while a report was made or written, before the first write of the outputs, or in
+-- one of them.
 abbrev pub IsOutOfMemory : List (List ℕ) → Shown → Shown → Type 0
 IsOutOfMemory words before after =
-    IsUnwritten before after
-    ⊎ (IsRefusedAtAll words before (IsCutReport after) ⊎ OfReplay words (HasRunShort before after))
+    IsRefusedAtAll words before (IsCutReport after)
+    ⊎ (OfReplay words (HasGivenUp before after) ⊎ OfReplay words (HasRunShort before after))
 
 abbrev pub is_status : ℕ → Bool
 is_status n = nat_lt n 4 || (n == 5 || (n == 7 || n == 8))
+
+-- What a call of the program with these words came to, by its status and by what the store showed
+-- before and after it. It leaves no source open that it opened.
+pub record IsOutcome (words : List (List ℕ)) (status : ℕ) (before after : Shown) : Type 0 where
+  pub replayed : status ≡ 0 → OfReplay words (HasReplayed before after)
+  pub memory : status ≡ 1 → IsOutOfMemory words before after
+  pub usage : status ≡ 2 → IsUsage words before (IsReported after)
+  pub description : status ≡ 3 → OfReplay words (IsDescriptionRefused before (IsReported after))
+  pub unread : status ≡ 5 → OfReplay words (IsFileUnread before (IsReported after))
+  pub stopped : status ≡ 7 → OfReplay words (HasStopped before after)
+  pub script : status ≡ 8 → OfReplay words (IsScriptRefused before (IsReported after))
+  pub statuses : IsTrue (is_status status)
+  pub pending : after.pending ≡ before.pending

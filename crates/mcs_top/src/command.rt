@@ -1,12 +1,11 @@
 //! The commands.
 ghost use Rattle.std.specs.Prelude.{◌≡◌, ◌⊎◌, ◌↔◌, List, ℕ, codes, map, string_bytes, IsTrue, IfSome, IfNone, IfOk, IfErr, OnOk};
-ghost use Rattle.mcs_top.specs.Replay.{IsReplay, is_file_word, OfReplay, HasReplayed, HasStopped, IsReported, IsCutReport, IsUsage, IsDescriptionRefused, IsFileUnread, IsScriptRefused, IsOutOfMemory, is_status, reason_word};
+ghost use Rattle.mcs_top.specs.Replay.{IsReplay, is_file_word, OfReplay, HasReplayed, IsReported, IsCutReport, IsOutcome, reason_word};
 ghost use Rattle.mcs_top.specs.Failing.{IsCommandFault, report_of, status_of};
 
-use crate::outputs::OUTPUT_NAME;
 use crate::replay::{Fault, Refusal, replay};
 use crate::script::Reason;
-use com_io::{Clock, Store, StoreFault};
+use com_io::{Clock, OUTPUT_NAME, Store, StoreFault};
 use com_text::{Rows, put_number};
 use std::alloc::{AllocError, Global};
 
@@ -40,22 +39,7 @@ const SCRIPT_REFUSED: u8 = 8;
 /// With 2, 3, 5 and 8 one line is written to standard output and nothing else; a failure of that
 /// write leaves the status. Every opened file is closed.
 pub fn tool<S: Store>(alloc: Global, words: &[String], store: &mut S) -> u8
-    ensures replayed { result ≡ 0 → OfReplay (map string_bytes words.now)
-        (HasReplayed (S.shows store.old) (S.shows store.new)) }
-    ensures memory { result ≡ 1 → IsOutOfMemory (map string_bytes words.now) (S.shows store.old)
-        (S.shows store.new) }
-    ensures usage { result ≡ 2 → IsUsage (map string_bytes words.now) (S.shows store.old)
-        (IsReported (S.shows store.new)) }
-    ensures description { result ≡ 3 → OfReplay (map string_bytes words.now)
-        (IsDescriptionRefused (S.shows store.old) (IsReported (S.shows store.new))) }
-    ensures unread { result ≡ 5 → OfReplay (map string_bytes words.now)
-        (IsFileUnread (S.shows store.old) (IsReported (S.shows store.new))) }
-    ensures stopped { result ≡ 7 → OfReplay (map string_bytes words.now)
-        (HasStopped (S.shows store.old) (S.shows store.new)) }
-    ensures script { result ≡ 8 → OfReplay (map string_bytes words.now)
-        (IsScriptRefused (S.shows store.old) (IsReported (S.shows store.new))) }
-    ensures statuses { IsTrue (is_status result) }
-    ensures pending { (S.shows store.new).pending ≡ (S.shows store.old).pending }
+    ensures { IsOutcome (map string_bytes words.now) result (S.shows store.old) (S.shows store.new) }
 {
     match command(alloc, words, store) {
         Ok(()) => DONE,
@@ -73,22 +57,7 @@ pub fn mcs<S: Store, C: Clock + Sync>(
     store: &mut S,
     _clock: &C,
 ) -> u8
-    ensures replayed { result ≡ 0 → OfReplay (map string_bytes words.now)
-        (HasReplayed (S.shows store.old) (S.shows store.new)) }
-    ensures memory { result ≡ 1 → IsOutOfMemory (map string_bytes words.now) (S.shows store.old)
-        (S.shows store.new) }
-    ensures usage { result ≡ 2 → IsUsage (map string_bytes words.now) (S.shows store.old)
-        (IsReported (S.shows store.new)) }
-    ensures description { result ≡ 3 → OfReplay (map string_bytes words.now)
-        (IsDescriptionRefused (S.shows store.old) (IsReported (S.shows store.new))) }
-    ensures unread { result ≡ 5 → OfReplay (map string_bytes words.now)
-        (IsFileUnread (S.shows store.old) (IsReported (S.shows store.new))) }
-    ensures stopped { result ≡ 7 → OfReplay (map string_bytes words.now)
-        (HasStopped (S.shows store.old) (S.shows store.new)) }
-    ensures script { result ≡ 8 → OfReplay (map string_bytes words.now)
-        (IsScriptRefused (S.shows store.old) (IsReported (S.shows store.new))) }
-    ensures statuses { IsTrue (is_status result) }
-    ensures pending { (S.shows store.new).pending ≡ (S.shows store.old).pending }
+    ensures { IsOutcome (map string_bytes words.now) result (S.shows store.old) (S.shows store.new) }
 {
     tool(alloc, words, store)
 }

@@ -7,7 +7,6 @@ mod command;
 mod description;
 mod events;
 mod fields;
-mod files;
 mod journal;
 mod net;
 mod outputs;

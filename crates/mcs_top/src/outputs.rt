@@ -1,22 +1,19 @@
 //! What a run writes.
-ghost use Rattle.std.specs.Prelude.{◌≡◌, ◌++◌, map, option_map, string_bytes, IfOk, OnOk, OnErr, IsOk, IsErrOf, count_by};
+ghost use Rattle.std.specs.Prelude.{◌≡◌, ◌++◌, map, option_map, string_bytes, IfOk, IfErr, OnOk, IsOk, IsErrOf, count_by};
 ghost use Rattle.com_io.specs.Faults.{HasCause};
-ghost use Rattle.mcs_top.specs.Outputs.{IsSilent, arrivals, portions, is_arrival, is_portion, party_line, count_line, count_lines, summary, transcript_name, contents_after, IsPartlyWritten};
+ghost use Rattle.mcs_top.specs.Outputs.{IsSilent, arrivals, portions, is_arrival, is_portion, party_line, count_line, count_lines, summary, transcript_name, contents_after, StopsAtWrite};
 ghost use Rattle.mcs_top.specs.Journal.{HaveTexts};
 ghost use Rattle.mcs_top.specs.Writes.{write_of, writes_of, AreTextsOf};
 
 use crate::events::{Entry, Reply};
 use crate::journal;
 use crate::net::Net;
-use com_io::{Store, StoreFault};
+use com_io::{OUTPUT_NAME, Store, StoreFault};
 use com_text::{Name, Rows, put_number};
 use std::alloc::{AllocError, Global};
 
 /// The name that a journal is written under.
 const JOURNAL_NAME: &str = "journal.txt";
-
-/// The name of standard output.
-pub const OUTPUT_NAME: &str = "-";
 
 /// How many messages were transmitted: no call sends yet.
 const TRANSMITTED: usize = 0;
@@ -53,7 +50,7 @@ impl Texts {
     pub fn write<S: Store>(&self, store: &mut S) -> Result<(), StoreFault>
         ensures ok { OnOk result ((S.shows store.new).contents ≡ option_map
             (contents_after (writes_of self.now)) (S.shows store.old).contents) }
-        ensures err { OnErr result (IsPartlyWritten (writes_of self.now)
+        ensures err { IfErr result (λ fault. StopsAtWrite fault (writes_of self.now)
             (S.shows store.old).contents (S.shows store.new).contents) }
         ensures cause { HasCause (S.shows store.old).write_faults (S.shows store.new).write_faults
             (IsOk result) (IsErrOf result StoreFault.Failed) }
@@ -85,7 +82,7 @@ impl Texts {
 fn write_all<S: Store>(store: &mut S, outputs: &[Output<'_>]) -> Result<(), StoreFault>
     ensures ok { OnOk result ((S.shows store.new).contents ≡ option_map
         (contents_after (map write_of outputs.now)) (S.shows store.old).contents) }
-    ensures err { OnErr result (IsPartlyWritten (map write_of outputs.now)
+    ensures err { IfErr result (λ fault. StopsAtWrite fault (map write_of outputs.now)
         (S.shows store.old).contents (S.shows store.new).contents) }
     ensures cause { HasCause (S.shows store.old).write_faults (S.shows store.new).write_faults
         (IsOk result) (IsErrOf result StoreFault.Failed) }

@@ -1,18 +1,18 @@
 //! Replaying a script on one thread.
 ghost use Rattle.std.specs.Prelude.{◌≡◌, OnOk, IfOk, IfErr};
 ghost use Rattle.mcs_top.specs.Journal.{HaveTexts};
-ghost use Rattle.mcs_top.specs.Files.{IsRead};
+ghost use Rattle.com_io.specs.Files.{IsRead};
+ghost use Rattle.mcs_top.specs.Files.{file_limit};
 ghost use Rattle.mcs_top.specs.Outputs.{IsSilent};
 ghost use Rattle.mcs_top.specs.Replay.{IsNetRead, IsScriptDone, HasReplayed};
 ghost use Rattle.mcs_top.specs.Failing.{IsNotReadFor, IsNetFault, IsScriptFault, HasWritten, IsWriteFault, HasFailed};
 
 use crate::description;
 use crate::events::Entry;
-use crate::files::{FILE_LIMIT, ReadFault, read_file};
 use crate::net::Net;
 use crate::outputs::Texts;
-use crate::script::{self, Reason, ScriptFault};
-use com_io::{Store, StoreFault};
+use crate::script::{self, FILE_LIMIT, Reason, ScriptFault};
+use com_io::{ReadFault, Store, StoreFault, read_file};
 use com_text::Rows;
 use std::alloc::Global;
 
@@ -103,11 +103,11 @@ fn read_named<'a, S: Store>(
     store: &mut S,
 ) -> Result<Vec<u8>, Fault<'a>>
     ensures ok { IfOk result
-        (λ bytes. IsRead name.now bytes.items (S.shows store.old) (S.shows store.new)) }
+        (λ bytes. IsRead file_limit name.now bytes.items (S.shows store.old) (S.shows store.new)) }
     ensures err { IfErr result (IsNotReadFor name.now (S.shows store.old) (S.shows store.new)) }
     ensures pending { (S.shows store.new).pending ≡ (S.shows store.old).pending }
 {
-    match read_file(alloc, store, name) {
+    match read_file(alloc, store, name, FILE_LIMIT) {
         Ok(bytes) => Ok(bytes),
         Err(ReadFault::NotOpened | ReadFault::Failed) => Err(Fault::Refused(Refusal::Unread(name))),
         Err(ReadFault::Memory) => Err(Fault::Memory),

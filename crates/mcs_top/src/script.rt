@@ -14,11 +14,13 @@ ghost use Rattle.mcs_top.specs.Performing.{DoesLine, IsLineRefused, IsStopped, f
 
 use crate::call_text;
 use crate::events::Entry;
-use crate::files::FILE_LIMIT;
 use crate::net::Net;
 use crate::system::{CallFault, System};
 use com_text::Rows;
 use std::alloc::Global;
+
+/// How many bytes a description or a script has at most.
+pub const FILE_LIMIT: usize = 1_048_576;
 
 const HEADER: &[u8; 12] = b"MCS-SCRIPT 1";
 
