@@ -1,2 +1,3 @@
-pub mod Paths
 pub mod Outputs
+pub mod Parted
+pub mod Paths

@@ -1,12 +1,13 @@
 -- Output areas, and the arrays of 114 characters that hold them.
-use Rattle.std.proofs.Common.{◌≡◌, ℕ, zero, suc, ◌+◌, ◌-◌, ◌*◌, ◌<◌, ◌≤◌, List, ◌∷◌, ◌++◌, length, take, drop, set, refl, sym, ap, ◌∙◌, arith, length-append, length-drop}
-use Rattle.std.proofs.lemmas.List.{append_assoc, take_at, take-append-le, drop-append-le, drop-drop, length-take-le, length-replicate, replicate-append-replicate}
+use Rattle.std.proofs.Common.{◌≡◌, ℕ, zero, suc, ◌+◌, ◌-◌, ◌*◌, ◌<◌, ◌≤◌, List, ◌∷◌, ◌++◌, length, take, drop, set, refl, sym, ap, ◌∙◌, arith, length-append}
+use Rattle.std.proofs.lemmas.List.{append_assoc, take_at, take-append-le, drop-append-le, length-replicate, replicate-append-replicate}
 use Rattle.std.proofs.Math.Seq.{set-append_seam}
-use borrow.Rule.Slice.PartMut.{put_mid}
 use Rattle.com_text.specs.Text.{IsText}
 use Rattle.com_text.specs.Name.{spaces}
-use Rattle.com_text.proofs.Texts.{IsText-append, IsText-take, IsText-drop}
+use Rattle.com_text.proofs.Texts.{IsText-append}
 use Rattle.com_cd.specs.OutputArea.{IsFieldOf, IsOutputArea, occurrences_of, opening_output, out_start, out_width, padded_area, set_out}
+use Rattle.com_cd.specs.Parts.{with_part}
+use Rattle.com_cd.proofs.Parted.{IsText-with_part, length-with_part}
 use Rattle.com_cd.specs.declared.output_area.OutField.{OutField}
 use Rattle.com_cd.specs.declared.output_area.OutField.TheVariants.{Count, Length, Status, Error, Destination}
 
@@ -71,56 +72,50 @@ opening_done bytes at n e done =
     rw (done, room) at e
 
 -- each field ends within the area
-pub end_within : (n : ℕ) (field : OutField) → IsFieldOf n field → out_start field + out_width field ≤ 10 + 13 * n
+end_within : (n : ℕ) (field : OutField) → IsFieldOf n field → out_start field + out_width field ≤ 10 + 13 * n
 end_within n Count h = omega arith
 end_within n Length h = omega arith
 end_within n Status h = omega arith
 end_within n (Error at) h = omega arith
 end_within n (Destination at) h = omega arith
 
--- a part of an area that is replaced by as many leaves the length
-pub length-set_out : (field : OutField) (area value : List ℕ) → out_start field + out_width field ≤ length area → length value ≡ out_width field
-    → length (set_out field area value) ≡ length area
-length-set_out field area value within same =
-    let start = out_start field in
-    let past = out_start field + out_width field in
-    omega (
-      arith,
-      length-append (take start area ++ value) (drop past area),
-      length-append (take start area) value,
-      length-take-le start area (omega arith),
-      length-drop past area,
-    )
-
--- a text over a part of a text leaves a text
-pub IsText-set_out : (field : OutField) (area value : List ℕ) → IsText area → IsText value → IsText (set_out field area value)
-IsText-set_out field area value h v =
-    IsText-append (take (out_start field) area ++ value) _ (IsText-append (take (out_start field) area) value (IsText-take (out_start field) area h) v)
-    (IsText-drop (out_start field + out_width field) area h)
-
 -- a part that is written in the array is written in the area that it holds
-pub written : (area value bytes : List ℕ) (start width : ℕ) → start + width ≤ length area → length value ≡ width → bytes ≡ padded_area area
-    → put_mid start width bytes value ≡ (take start area ++ value ++ drop (start + width) area) ++ spaces (114 - length area)
-written area value bytes start width within same e =
+with_part-padded : (area value bytes : List ℕ) (start width : ℕ) → start + width ≤ length area → bytes ≡ padded_area area
+    → with_part start width bytes value ≡ with_part start width area value ++ spaces (114 - length area)
+with_part-padded area value bytes start width within e =
     let pad = spaces (114 - length area) in
     let front : take start bytes ≡ take start area = ap (take start) e ∙ take-append-le start area pad (omega arith) in
-    let behind : drop start bytes ≡ drop start area ++ pad = ap (drop start) e ∙ drop-append-le start area pad (omega arith) in
-    let past : drop width (drop start area ++ pad) ≡ drop (start + width) area ++ pad =
-    drop-append-le width (drop start area) pad (omega (arith, length-drop start area)) ∙ ap (λ xs. xs ++ pad) (drop-drop width start area) in
-    rw (front, behind, past) (sym (append_assoc (take start area) value _) ∙ sym (append_assoc (take start area ++ value) (drop (start + width) area) pad))
+    let behind : drop (start + width) bytes ≡ drop (start + width) area ++ pad = ap (drop (start + width)) e ∙ drop-append-le (start + width) area pad within in
+    rw (front, behind) (sym (append_assoc (take start area ++ value) (drop (start + width) area) pad))
 
 -- a field that is written leaves an area of as many occurrences
-pub field_written : (field : OutField) (area value bytes : List ℕ) (n : ℕ) → IsOutputArea area → n ≡ occurrences_of area → IsFieldOf n field
+field_written : (field : OutField) (area value bytes : List ℕ) (n : ℕ) → IsOutputArea area → n ≡ occurrences_of area → IsFieldOf n field
     → length value ≡ out_width field → IsText value → bytes ≡ padded_area area
-    → Holds (put_mid (out_start field) (out_width field) bytes value) n
-    × (take (10 + 13 * n) (put_mid (out_start field) (out_width field) bytes value) ≡ set_out field area value)
+    → Holds (set_out field bytes value) n × (take (10 + 13 * n) (set_out field bytes value) ≡ set_out field area value)
 field_written field area value bytes n h same inside width text e =
+    let start = out_start field in
     let whole : length area ≡ 10 + 13 * n = omega (arith, h.whole, same) in
-    let within : out_start field + out_width field ≤ length area = omega (arith, end_within n field inside) in
-    let unchanged = length-set_out field area value within width in
-    let all = written area value bytes (out_start field) (out_width field) within width e in
-    let padding : put_mid (out_start field) (out_width field) bytes value ≡ padded_area (set_out field area value) = rw unchanged all in
+    let within : start + out_width field ≤ length area = omega (arith, end_within n field inside) in
+    let unchanged = length-with_part start (out_width field) area value within width in
+    let all = with_part-padded area value bytes start (out_width field) within e in
+    let padding : set_out field bytes value ≡ padded_area (set_out field area value) = rw unchanged all in
     let long : length (set_out field area value) ≡ 10 + 13 * n = unchanged ∙ whole in (
-      held (set_out field area value) _ n long (omega (arith, h.some, same)) (omega (arith, h.few, same)) (IsText-set_out field area value h.text text) padding,
+      held (set_out field area value) _ n long (omega (arith, h.some, same)) (omega (arith, h.few, same)) (IsText-with_part start (out_width field) area value h.text text) padding,
       front_of_padded (set_out field area value) _ n long padding,
     )
+
+-- an array that holds an area holds the written one once a field of it is written
+pub held_written : (field : OutField) (area value bytes : List ℕ) (n : ℕ) → Holds bytes n → take (10 + 13 * n) bytes ≡ area
+    → IsFieldOf (occurrences_of area) field → length value ≡ out_width field → IsText value
+    → Holds (set_out field bytes value) n × (take (10 + 13 * n) (set_out field bytes value) ≡ set_out field area value)
+held_written field area value bytes n h view inside width text =
+    let count : n ≡ occurrences_of area = h.1 ∙ ap occurrences_of view in
+    let valid : IsOutputArea area = rw view at h.0 in
+    field_written field area value bytes n valid count (rw count inside) width text (h.2 ∙ ap padded_area view)
+
+-- a field of the area that an array holds ends within the array
+pub field_within : (field : OutField) (area bytes : List ℕ) (n : ℕ) → Holds bytes n → take (10 + 13 * n) bytes ≡ area → IsFieldOf (occurrences_of area) field
+    → out_start field + out_width field ≤ 114
+field_within field area bytes n h view inside =
+    let count : n ≡ occurrences_of area = h.1 ∙ ap occurrences_of view in
+    omega (arith, end_within n field (rw count inside), h.0.few, h.1)

@@ -1,7 +1,8 @@
 -- The area of an input CD: 87 characters, in eleven fields one after another.
-use Rattle.std.specs.Prelude.{◌≡◌, ℕ, ◌+◌, List, ◌++◌, length, take, drop, slice_range, replicate}
+use Rattle.std.specs.Prelude.{◌≡◌, ℕ, List, ◌++◌, length, replicate}
 use Rattle.com_text.specs.Text.{IsText}
 use Rattle.com_text.specs.Name.{spaces}
+use Rattle.com_cd.specs.Parts.{part, with_part}
 use Rattle.com_cd.specs.declared.input_area.InField.{InField}
 use Rattle.com_cd.specs.declared.input_area.InField.TheVariants.{Queue, Sub1, Sub2, Sub3, Date, Time, Source, Length, EndKey, Status, Count}
 
@@ -40,12 +41,11 @@ pub record IsInputArea (bytes : List ℕ) : Type 0 where
 
 -- the characters of a field
 abbrev pub in_field : InField → List ℕ → List ℕ
-in_field field area = slice_range area (start_of field) (start_of field + width_of field)
+in_field field area = part (start_of field) (width_of field) area
 
 -- the area with these characters in a field, and all others as before
 abbrev pub set_in : InField → List ℕ → List ℕ → List ℕ
-set_in field area value =
-    take (start_of field) area ++ value ++ drop (start_of field + width_of field) area
+set_in field area value = with_part (start_of field) (width_of field) area value
 
 -- the digit 0, `n` times
 abbrev pub zeros : ℕ → List ℕ

@@ -1,11 +1,13 @@
 -- The area of an output CD: 10 characters in three fields, and then 13 characters in two fields
 -- for each of 1 to 8 destinations.
-use Rattle.std.specs.Prelude.{ℕ, zero, suc, ◌+◌, ◌-◌, ◌*◌, ◌/◌, ◌<◌, ◌≤◌, ◌≡◌, Bool, ◌&&◌, nat_le, if◌then◌else◌, List, ◌∷◌, ◌++◌, length, take, drop, slice_range, Option, None, Some}
+use Rattle.std.specs.Prelude.{ℕ, zero, suc, ◌+◌, ◌-◌, ◌*◌, ◌/◌, ◌<◌, ◌≤◌, ◌≡◌, Bool, ◌&&◌, nat_le, if◌then◌else◌, List, ◌∷◌, ◌++◌, length, Option, None, Some}
 use Rattle.std.specs.Str.{all_ascii_digits}
 use Rattle.com_text.specs.Text.{IsText}
 use Rattle.com_text.specs.Name.{spaces}
 use Rattle.com_text.specs.Digits.{number}
 use Rattle.com_cd.specs.InputArea.{zeros}
+use Rattle.com_cd.specs.Parts.{part, with_part}
+use Rattle.com_cd.specs.declared.output_area.TheConstants.{MAX_OCCURRENCES}
 use Rattle.com_cd.specs.declared.output_area.OutField.{OutField}
 use Rattle.com_cd.specs.declared.output_area.OutField.TheVariants.{Count, Length, Status, Error, Destination}
 
@@ -40,7 +42,7 @@ IsFieldOf n (Destination at) = at < n
 -- a text as long as 1 to 8 occurrences make it
 pub record IsOutputArea (area : List ℕ) : Type 0 where
   pub some : 1 ≤ occurrences_of area
-  pub few : occurrences_of area ≤ 8
+  pub few : occurrences_of area ≤ MAX_OCCURRENCES
   pub whole : length area ≡ 10 + 13 * occurrences_of area
   pub text : IsText area
 
@@ -50,12 +52,11 @@ padded_area area = area ++ spaces (114 - length area)
 
 -- the characters of a field
 abbrev pub out_field : OutField → List ℕ → List ℕ
-out_field field area = slice_range area (out_start field) (out_start field + out_width field)
+out_field field area = part (out_start field) (out_width field) area
 
 -- the area with these characters in a field, and all others as before
 abbrev pub set_out : OutField → List ℕ → List ℕ → List ℕ
-set_out field area value =
-    take (out_start field) area ++ value ++ drop (out_start field + out_width field) area
+set_out field area value = with_part (out_start field) (out_width field) area value
 
 -- spaces in the destinations, zeros elsewhere
 abbrev pub opening_output : ℕ → List ℕ

@@ -1,11 +1,10 @@
 //! What the names of an input area designate.
 ghost use Rattle.std.specs.Prelude.{◌≡◌, ◌↔◌, ℕ, List, Some};
-ghost use Rattle.std.specs.List.{list_any};
-ghost use Rattle.com_text.specs.Name.{IsName, field_of, is_character};
+ghost use Rattle.com_text.specs.Name.{IsName, field_of};
 ghost use Rattle.com_cd.specs.Designation.{Designates};
 
 use crate::IN_AREA_LENGTH;
-use com_text::{FIELD_LENGTH, Field, MAX_NAMES, Name, NamePath};
+use com_text::{FIELD_LENGTH, Field, MAX_NAMES, Name, NamePath, has_character};
 
 /// How many characters the name fields of an area have together.
 pub(crate) const NAMES_LENGTH: usize = MAX_NAMES * FIELD_LENGTH;
@@ -43,11 +42,4 @@ fn name_in(field: &[u8; FIELD_LENGTH]) -> Option<Name>
         Field::Named(name) => Some(name),
         Field::Spaces | Field::Bad => None,
     }
-}
-
-/// Whether a character is no space.
-fn has_character(bytes: &[u8]) -> bool
-    ensures { result ≡ list_any is_character bytes.now }
-{
-    bytes.iter().any(|byte| *byte != b' ')
 }

@@ -5,6 +5,7 @@ ghost use Rattle.com_cd.specs.InputArea.{IsInputArea, in_field, set_in, width_of
 ghost use Rattle.com_cd.specs.Designation.{Designates};
 
 use crate::designation::{NAMES_LENGTH, path_in};
+use crate::parts::write_part;
 use crate::{Designation, STATUS_LENGTH};
 use com_text::{FIELD_LENGTH, is_text};
 use std::marker::Model;
@@ -159,7 +160,6 @@ impl InArea {
         ensures area { self.new ≡ set_in field self.old value.now }
         ensures valid { IsInputArea self.new }
     {
-        let start = field.start();
-        self.bytes[start..start + field.width()].copy_from_slice(value);
+        write_part(&mut self.bytes, field.start(), value);
     }
 }

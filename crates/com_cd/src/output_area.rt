@@ -4,6 +4,7 @@ ghost use Rattle.com_text.specs.Text.{IsText};
 ghost use Rattle.com_cd.specs.OutputArea.{IsFieldOf, IsOutputArea, destination_count, occurrences_of, opening_output, out_field, out_start, out_width, set_out};
 
 use crate::STATUS_LENGTH;
+use crate::parts::write_part;
 use com_text::{FIELD_LENGTH, is_text, number_of};
 use std::marker::Model;
 
@@ -93,8 +94,8 @@ impl Model for OutArea {
 impl OutArea {
     /// Spaces in the destinations, and zeros elsewhere.
     pub fn opening(occurrences: u32) -> OutArea
-        requires some { 1 ≤ occurrences }
-        requires few { occurrences ≤ 8 }
+        requires at_least_one { 1 ≤ occurrences }
+        requires few { occurrences ≤ MAX_OCCURRENCES }
         ensures { result ≡ opening_output occurrences }
     {
         let mut bytes = [b' '; MAX_OUT_AREA_LENGTH];
@@ -157,15 +158,14 @@ impl OutArea {
         ensures valid { IsOutputArea self.new }
         ensures occurrences { occurrences_of self.new ≡ occurrences_of self.old }
     {
-        let start = field.start();
-        self.bytes[start..start + field.width()].copy_from_slice(value);
+        write_part(&mut self.bytes, field.start(), value);
     }
 
     /// The number of DESTINATION COUNT: None exactly where it is not four digits, or its number is
     /// 0 or above the occurrences of the area.
     pub fn count(&self) -> Option<u32>
         ensures count { result ≡ destination_count self.now }
-        ensures some { IfSome result (λ n. 1 ≤ n) }
+        ensures positive { IfSome result (λ n. 1 ≤ n) }
         ensures few { IfSome result (λ n. n ≤ occurrences_of self.now) }
     {
         let number = number_of(self.get(OutField::Count))?;
@@ -178,8 +178,9 @@ impl OutArea {
 
 /// How many occurrences an area of so many characters has: None exactly where no area is so long.
 fn occurrences_in(characters: usize) -> Option<u32>
-    ensures found { IfSome result (λ n. (1 ≤ n) × (n ≤ 8) × (characters ≡ 10 + 13 * n)) }
-    ensures all { (n : ℕ) → 1 ≤ n → n ≤ 8 → characters ≡ 10 + 13 * n → result ≡ Some n }
+    ensures found { IfSome result (λ n.
+        (1 ≤ n) × (n ≤ MAX_OCCURRENCES) × (characters ≡ 10 + 13 * n)) }
+    ensures all { (n : ℕ) → 1 ≤ n → n ≤ MAX_OCCURRENCES → characters ≡ 10 + 13 * n → result ≡ Some n }
 {
     let behind = characters.checked_sub(HEAD_LENGTH)?;
     let occurrences = behind / OCCURRENCE_LENGTH;

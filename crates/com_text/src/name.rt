@@ -127,8 +127,8 @@ fn length_before_space(field: &[u8; FIELD_LENGTH]) -> usize
         .unwrap_or(FIELD_LENGTH)
 }
 
-/// Whether a byte is no space.
-fn has_character(bytes: &[u8]) -> bool
+/// Whether there is a byte that is no space.
+pub fn has_character(bytes: &[u8]) -> bool
     ensures { result ≡ list_any is_character bytes.now }
 {
     bytes.iter().any(|byte| *byte != b' ')

@@ -58,7 +58,7 @@ impl NamePath {
 
     /// The path with one more name below: None exactly at four names.
     pub fn then(&self, next: Name) -> Option<NamePath>
-        ensures none { IsNone result ↔ (length self.now ≡ 4) }
+        ensures none { IsNone result ↔ (length self.now ≡ MAX_NAMES) }
         ensures longer { IfSome result (λ path. path ≡ self.now ++ next ∷ []) }
     {
         if self.count == MAX_NAMES {
@@ -73,8 +73,8 @@ impl NamePath {
     /// Its names, one to four, from the top down.
     pub fn names(&self) -> &[Name]
         ensures names { result.now ≡ self.now }
-        ensures some { 1 ≤ length self.now }
-        ensures few { length self.now ≤ 4 }
+        ensures not_empty { 1 ≤ length self.now }
+        ensures few { length self.now ≤ MAX_NAMES }
     {
         &self.names[..self.count]
     }

@@ -18,7 +18,7 @@ invariant_of-result c =
     let n = c.args.occurrences in
     let bytes = c.loop-at.bytes in
     let same = opening_done bytes c.loop-at.at n c.loop-at.invariant (omega (arith, c.loop-at.auto.at-end, c.loop-at-test.false)) in
-    held (opening_output n) bytes n (length-opening_output n) c.requires.some c.requires.few (IsText-opening_output n) same
+    held (opening_output n) bytes n (length-opening_output n) c.requires.at_least_one c.requires.few (IsText-opening_output n) same
 
 pub returns : goal.returns
 returns c =

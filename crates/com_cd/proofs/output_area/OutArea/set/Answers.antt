@@ -1,47 +1,33 @@
-use Rattle.std.proofs.Common.{◌≡◌, ℕ, ◌+◌, ◌-◌, ◌*◌, List, length, take, arith, ap, sym, ◌∙◌}
-use borrow.Rule.Slice.PartMut.{put_mid}
-use Rattle.com_text.specs.Text.{IsText}
-use Rattle.com_cd.specs.OutputArea.{IsFieldOf, IsOutputArea, occurrences_of, out_start, out_width, padded_area, set_out}
-use Rattle.com_cd.specs.declared.output_area.OutField.{OutField}
-use Rattle.com_cd.proofs.Outputs.{Holds, field_written}
+use Rattle.std.proofs.Common.{◌≡◌, ◌+◌, ◌*◌, refl, take, arith, ap, sym, ◌∙◌}
+use Rattle.com_cd.specs.OutputArea.{occurrences_of, set_out}
+use Rattle.com_cd.proofs.Outputs.{Holds, field_within, held_written}
 use Rattle.com_cd.proofs.output_area.OutArea.set.Goals as goal
 
--- an array that holds an area holds the written one once a field of it is written
-held_written : (field : OutField) (area value bytes : List ℕ) (n start past : ℕ) → Holds bytes n → take (10 + 13 * n) bytes ≡ area
-    → IsFieldOf (occurrences_of area) field → length value ≡ out_width field → IsText value
-    → start ≡ out_start field → past ≡ out_start field + out_width field
-    → Holds (put_mid start (past - start) bytes value) n
-    × (take (10 + 13 * n) (put_mid start (past - start) bytes value) ≡ set_out field area value)
-held_written field area value bytes n start past h view inside width text s p =
-    let count : n ≡ occurrences_of area = h.1 ∙ ap occurrences_of view in
-    let valid : IsOutputArea area = rw view at h.0 in
-    let within : IsFieldOf n field = rw count inside in
-    let wide : past - start ≡ out_width field = omega (arith, s, p) in
-    let all = field_written field area value bytes n valid count within width text (h.2 ∙ ap padded_area view) in
-    rw (wide, s) all
+-- the array with the field written
+written : (c : goal.After-write_part) → c.write_part.new.area ≡ set_out c.args.field c.self.inside.bytes c.args.value.now
+written c = rw (c.write_part.ensures, c.start.ensures, c.requires.width) refl
 
--- so is the area that the characters are copied into
-held_copied : (c : goal.After-copy_from_slice)
-    → let bytes = put_mid c.start-start.result (c.start-start.result + c.width.result - c.start-start.result) c.self.inside.bytes c.copy_from_slice.new.self in
-    Holds bytes c.self.inside.occurrences
-    × (take (10 + 13 * c.self.inside.occurrences) bytes ≡ set_out c.args.field c.args.self.now c.copy_from_slice.new.self)
-held_copied c =
-    let value = c.copy_from_slice.new.self in
-    let same : value ≡ c.args.value.now = c.copy_from_slice.ensures.after in
-    let width : length value ≡ out_width c.args.field = ap length same ∙ c.requires.width in
-    let text : IsText value = rw same c.requires.text in
-    let past : c.start-start.result + c.width.result ≡ out_start c.args.field + out_width c.args.field = omega (arith, c.start-start.ensures, c.width.ensures) in
-    held_written c.args.field c.args.self.now value c.self.inside.bytes c.self.inside.occurrences c.start-start.result _
-    c.self.invariant c.self.view_is c.requires.within width text c.start-start.ensures past
+-- it holds the area with the field written
+holds : (c : goal.After-write_part)
+    → Holds c.write_part.new.area c.self.inside.occurrences
+    × (take (10 + 13 * c.self.inside.occurrences) c.write_part.new.area ≡ set_out c.args.field c.args.self.now c.args.value.now)
+holds c =
+    let bytes = c.self.inside.bytes in
+    rw (written c) (held_written c.args.field c.args.self.now c.args.value.now bytes c.self.inside.occurrences c.self.invariant c.self.view_is c.requires.within c.requires.width c.requires.text)
+
+pub write_part-requires : goal.write_part-requires
+write_part-requires c =
+    let within = field_within c.args.field c.args.self.now c.self.inside.bytes c.self.inside.occurrences c.self.invariant c.self.view_is c.requires.within in
+    omega (arith, within, c.start.ensures, c.requires.width, c.self.told)
 
 pub invariant_of-self : goal.invariant_of-self
-invariant_of-self c = (held_copied c).0
+invariant_of-self c = (holds c).0
 
 pub returns-clause-area : goal.returns-clause-area
-returns-clause-area c = (held_copied c).1 ∙ ap (set_out c.args.field c.args.self.now) c.copy_from_slice.ensures.after
+returns-clause-area c = (holds c).1
 
 pub returns-clause-valid : goal.returns-clause-valid
-returns-clause-valid c = (held_copied c).0.0
+returns-clause-valid c = (holds c).0.0
 
 pub returns-clause-occurrences : goal.returns-clause-occurrences
-returns-clause-occurrences c = sym (held_copied c).0.1 ∙ (c.self.invariant.1 ∙ ap occurrences_of c.self.view_is)
+returns-clause-occurrences c = sym (holds c).0.1 ∙ (c.self.invariant.1 ∙ ap occurrences_of c.self.view_is)
