@@ -40,7 +40,7 @@ fn command<S: Store, C: Clock + Sync>(
     store: &mut S,
     clock: &C,
 ) -> ExitCode
-    ensures { IsOutcome (drop 1 (map string_bytes arguments.now)) (exit_status result)
+    ensures { IsOutcome (map string_bytes (drop 1 arguments.now)) (exit_status result)
         (S.shows store.old) (S.shows store.new) }
 {
     ExitCode::from(mcs_top::mcs(alloc, words_of(arguments), store, clock))
