@@ -1,0 +1,9 @@
+mod Lists
+mod Fronts
+mod Counting
+mod Changes
+mod Drawing
+mod Looking
+mod Committing
+mod PassingOn
+mod Marking
