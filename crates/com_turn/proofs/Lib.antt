@@ -7,3 +7,9 @@ mod Looking
 mod Committing
 mod PassingOn
 mod Marking
+mod Numbering
+mod Joining
+mod Closing
+mod Beginning
+mod Settling
+mod Collecting

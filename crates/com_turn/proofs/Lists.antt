@@ -51,3 +51,35 @@ module _ {A : Type 0} where
 
   pub contains_rest : (x : A) (xs : List A) (a : A) → Contains xs a → Contains (x ∷ xs) a
   contains_rest x xs a h = let lt = h.1 in (suc h.0, omega (arith, lt), h.2)
+
+  pub slice_get-front : (l m : List A) (i : ℕ) → i < length l → slice_get (l ++ m) i ≡ slice_get l i
+  slice_get-front [] m i lt = absurd (omega (arith, lt))
+  slice_get-front (x ∷ xs) m zero lt = refl
+  slice_get-front (x ∷ xs) m (suc i) lt = slice_get-front xs m i (omega (arith, lt))
+
+  pub slice_get-last : (l : List A) (a : A) (i : ℕ) → i ≡ length l → slice_get (l ++ a ∷ []) i ≡ Some a
+  slice_get-last [] a zero e = refl
+  slice_get-last [] a (suc i) e = absurd (omega (arith, e))
+  slice_get-last (x ∷ xs) a zero e = absurd (omega (arith, e))
+  slice_get-last (x ∷ xs) a (suc i) e = slice_get-last xs a i (omega (arith, e))
+
+  pub slice_get-within : (l : List A) (i : ℕ) → i < length l → (a : A) × (slice_get l i ≡ Some a)
+  slice_get-within [] i lt = absurd (omega (arith, lt))
+  slice_get-within (x ∷ xs) zero lt = (x, refl)
+  slice_get-within (x ∷ xs) (suc i) lt = slice_get-within xs i (omega (arith, lt))
+
+  pub get_of_index : (l : List A) (i : ℕ) (a : A) → i < length l → get_or l i a ≡ a → slice_get l i ≡ Some a
+  get_of_index [] i a lt e = absurd (omega (arith, lt))
+  get_of_index (x ∷ xs) zero a lt e = ap Some e
+  get_of_index (x ∷ xs) (suc i) a lt e = get_of_index xs i a (omega (arith, lt)) e
+
+  pub index_of_get : (l : List A) (i : ℕ) (a d : A) → slice_get l i ≡ Some a → get_or l i d ≡ a
+  index_of_get [] i a d e = absurd (None-Some a e)
+  index_of_get (x ∷ xs) zero a d e = Some-injective x a e
+  index_of_get (x ∷ xs) (suc i) a d e = index_of_get xs i a d e
+
+  -- in range any default serves
+  pub index_any : (l : List A) (i : ℕ) (d e : A) → i < length l → get_or l i d ≡ get_or l i e
+  index_any [] i d e lt = absurd (omega (arith, lt))
+  index_any (x ∷ xs) zero d e lt = refl
+  index_any (x ∷ xs) (suc i) d e lt = index_any xs i d e (omega (arith, lt))
