@@ -3,8 +3,8 @@ ghost use Rattle.std.specs.Prelude.{◌≡◌, ℕ, ◌%◌, ◌^◌, ◌<◌, [
 ghost use Rattle.com_turn.specs.Rule.{HasEveryNumber, IsClosed};
 ghost use Rattle.com_turn.specs.Steps.{Serves};
 ghost use Rattle.com_turn.specs.Marks.{active_count};
-ghost use Rattle.com_turn.specs.Views.{first_view, at_stage, with_item, with_mark, with_found, with_next_count, view_of_next, joined};
-ghost use Rattle.com_turn.specs.declared.view.Stage.TheVariants.{Idle, Waiting, Holding};
+ghost use Rattle.com_turn.specs.Views.{first_view, is_at_turn, at_stage, with_item, with_mark, with_found, with_next_count, view_of_next, joined};
+ghost use Rattle.com_turn.specs.declared.view.Stage.TheVariants.{Idle, Waiting};
 
 use crate::logged::Logged;
 use crate::steps::{
@@ -118,7 +118,7 @@ impl<V: Logged> Board<V> {
 
     pub(crate) fn commit<C: Chosen<V::Item>>(&self, seat: &mut SeatOf<V>, item: &V::Item)
         requires own { seat.old.table_id ≡ self.now }
-        requires at_turn { ((ticket : ℕ) × (seat.old.me.0.stage ≡ Holding ticket)) × (seat.old.me.0.spent ≡ false) }
+        requires at_turn { (is_at_turn seat.old.me.0.stage ≡ true) × (seat.old.me.0.spent ≡ false) }
         requires chosen { C.item ≡ Some item.now }
         requires owner { V.owner item.now ≡ seat.old.me.0.known.number }
         requires room { length seat.old.me.0.known.seen < 2 ^ 63 }
@@ -130,7 +130,7 @@ impl<V: Logged> Board<V> {
 
     pub(crate) fn pass_on(&self, seat: &mut SeatOf<V>)
         requires own { seat.old.table_id ≡ self.now }
-        requires at_turn { ((ticket : ℕ) × (seat.old.me.0.stage ≡ Holding ticket)) × (seat.old.me.0.spent ≡ false) }
+        requires at_turn { (is_at_turn seat.old.me.0.stage ≡ true) × (seat.old.me.0.spent ≡ false) }
         requires home { (value : V) × (seat.old.me.1 ≡ (SLOT, Some value) ∷ []) × (V.log value ≡ seat.old.me.0.known.seen) × (seat.old.me.0.known.base ≡ Some (V.base value)) }
         ensures own { seat.new.table_id ≡ seat.old.table_id }
         ensures passed { seat.new.me ≡ (at_stage Idle seat.old.me.0, []) }
@@ -161,7 +161,7 @@ impl<V: Logged> Board<V> {
 
     pub(crate) fn enter(&self, seat: &mut SeatOf<V>)
         requires own { seat.old.table_id ≡ self.now }
-        requires at_turn { ((ticket : ℕ) × (seat.old.me.0.stage ≡ Holding ticket)) × (seat.old.me.0.spent ≡ false) }
+        requires at_turn { (is_at_turn seat.old.me.0.stage ≡ true) × (seat.old.me.0.spent ≡ false) }
         requires inactive { seat.old.me.0.active ≡ false }
         ensures own { seat.new.table_id ≡ seat.old.table_id }
         ensures entered { seat.new.me ≡ (with_mark true seat.old.me.0, seat.old.me.1) }
@@ -171,7 +171,7 @@ impl<V: Logged> Board<V> {
 
     pub(crate) fn leave(&self, seat: &mut SeatOf<V>)
         requires own { seat.old.table_id ≡ self.now }
-        requires at_turn { ((ticket : ℕ) × (seat.old.me.0.stage ≡ Holding ticket)) × (seat.old.me.0.spent ≡ false) }
+        requires at_turn { (is_at_turn seat.old.me.0.stage ≡ true) × (seat.old.me.0.spent ≡ false) }
         requires active { seat.old.me.0.active ≡ true }
         ensures own { seat.new.table_id ≡ seat.old.table_id }
         ensures left { seat.new.me ≡ (with_mark false seat.old.me.0, seat.old.me.1) }
@@ -181,7 +181,7 @@ impl<V: Logged> Board<V> {
 
     pub(crate) fn count_active(&self, seat: &mut SeatOf<V>) -> u64
         requires own { seat.old.table_id ≡ self.now }
-        requires at_turn { ((ticket : ℕ) × (seat.old.me.0.stage ≡ Holding ticket)) × (seat.old.me.0.spent ≡ false) }
+        requires at_turn { (is_at_turn seat.old.me.0.stage ≡ true) × (seat.old.me.0.spent ≡ false) }
         ensures own { seat.new.table_id ≡ seat.old.table_id }
         ensures found { seat.new.me ≡ (with_found result seat.old.me.0, seat.old.me.1) }
         ensures count { result ≡ active_count seat.old.me.0.known.parties seat.old.me.0.known.marks }

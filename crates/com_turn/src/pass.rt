@@ -62,7 +62,7 @@ impl<V: Logged> Pass<V> {
     }
 
     pub(crate) fn into_seat(self) -> SeatOf<V>
-        requires idle { self.at_turn ≡ false }
+        requires { self.at_turn ≡ false }
         ensures turn { result.table_id ≡ self.turn }
         ensures known { result.me.0.known ≡ known_of self }
         ensures idle { (result.me.0.stage ≡ Idle) × (result.me.1 ≡ []) }

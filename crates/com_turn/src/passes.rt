@@ -23,14 +23,12 @@ pub(crate) fn deal<V: Logged>(
 {
     let mut seat = seat;
     let mut passes = passes;
-    let mut number = 1;
-    while number < opening.parties {
+    for number in 1..opening.parties {
         let next = board.give_number(&mut seat);
         match passes.push(Pass::new(next, number, opening)) {
             Ok(()) => {}
             Err(_) => unreachable!(),
         }
-        number += 1;
     }
     match passes.insert(0, Pass::new(seat, 0, opening)) {
         Ok(()) => {}
