@@ -1,5 +1,5 @@
 -- The rule holds at the opening, and each pass that is dealt out is new.
-use Rattle.std.proofs.Common.{◌≡◌, ◌≢◌, ℕ, zero, suc, ◌+◌, ◌-◌, ◌%◌, ◌^◌, ◌<◌, ◌≤◌, false, cond, Option, Some, None, List, [], ◌∷◌, ◌++◌, length, filter, slice_get, count_by, sym, refl, ap, ◌∙◌, subst, arith, length-append, eqb}
+use Rattle.std.proofs.Common.{◌≡◌, ℕ, zero, suc, ◌+◌, ◌^◌, ◌<◌, false, cond, Option, Some, None, List, [], ◌∷◌, ◌++◌, length, filter, slice_get, count_by, sym, refl, ap, ◌∙◌, subst, arith, length-append, eqb}
 use mathlib.Core.Option.{some, some-injective, some-ne-none}
 use mathlib.Core.Logic.{dite}
 use native.Mathlib.Decide.{ℕ_discrete}
@@ -10,7 +10,6 @@ use Rattle.std.proofs.Math.Seq.{drop-length}
 use Rattle.atomic_table.specs.Table.{opening}
 use Rattle.atomic_table.specs.Seated.{TableId}
 use Rattle.atomic_table.specs.declared.shared.Seat.{Seat}
-use Rattle.com_turn.specs.declared.view.Known.{Known}
 use Rattle.com_turn.specs.declared.view.Stage.TheVariants.{Idle}
 use Rattle.com_turn.specs.declared.view.View.{View}
 use Rattle.com_turn.specs.declared.view.Opening.{Opening}

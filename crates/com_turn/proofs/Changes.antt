@@ -125,8 +125,8 @@ module _ {V I B : Type 0} (log_of : V → List I) (base_of : V → B) (owner : I
           (λ j u ne e lu. count_stays u.count (r.counts j u e lu));
       apart = each_set s.views id w (λ i x. EachLive (λ j u. i ≢ j → AreApart x u) (set s.views id w))
           (each_set s.views id w (λ j u. id ≢ j → AreApart w u) (λ (not : id ≢ id). absurd (not refl))
-              (λ j u ne e lu _. apart_from v w u c.stays (c.others j u ne e lu).1 (r.apart id v c.at c.live j u e lu (λ h. ne (sym h)))))
+          (λ j u ne e lu _. apart_from v w u c.stays (c.others j u ne e lu).1 (r.apart id v c.at c.live j u e lu (λ h. ne (sym h)))))
           (λ i x other at_x lx. each_set s.views id w (λ j u. i ≢ j → AreApart x u)
-              (λ ne. apart_to v w x c.stays (c.others i x other at_x lx).1 (r.apart i x at_x lx id v c.at c.live ne))
-              (λ j u _ e lu ne. r.apart i x at_x lx j u e lu ne));
+          (λ ne. apart_to v w x c.stays (c.others i x other at_x lx).1 (r.apart i x at_x lx id v c.at c.live ne))
+          (λ j u _ e lu ne. r.apart i x at_x lx j u e lu ne));
     }

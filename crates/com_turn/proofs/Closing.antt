@@ -1,5 +1,5 @@
 -- What is known at the end, when one view has every number.
-use Rattle.std.proofs.Common.{◌≡◌, ◌≢◌, ℕ, ◌<◌, false, Option, Some, None, List, [], ◌∷◌, Contains, sym, refl, ap, ◌∙◌, subst, ⊎_elim}
+use Rattle.std.proofs.Common.{◌≡◌, ◌≢◌, ℕ, ◌<◌, false, Option, Some, None, List, Contains, sym, refl, ap, ◌∙◌, subst, ⊎_elim}
 use mathlib.Core.Option.{some, some-injective}
 use lib.ListN.{get_elem?}
 use Rattle.atomic_table.specs.Table.{State, Final, Seen}
@@ -19,9 +19,9 @@ module _ {V I B : Type 0} (log_of : V → List I) (base_of : V → B) (owner : I
       let ne : id ≢ j = λ same. idle-Holding v.stage ticket idle (ap (λ (z : View I B). z.stage) (some-injective v u (sym at ∙ (ap (get_elem? s.views) same ∙ h.2))) ∙ h.3) in
       let apart = r.apart id v at live j u h.2 h.4 ne in let ku = (r.live j u h.2 h.4).known in let kv = (r.live id v at live).known in
       absurd (⊎_elim
-          (λ (t : u.known.number ≡ v.known.number). apart.numbers (sym t))
-          (λ (t : (old : Known I B) × Contains v.olds old × (old.number ≡ u.known.number)). apart.olds t.0 t.1 t.2)
-          (all u.known.number (subst (λ z. u.known.number < z) (sym kv.parties) ku.number)))
+      (λ (t : u.known.number ≡ v.known.number). apart.numbers (sym t))
+      (λ (t : (old : Known I B) × Contains v.olds old × (old.number ≡ u.known.number)). apart.olds t.0 t.1 t.2)
+      (all u.known.number (subst (λ z. u.known.number < z) (sym kv.parties) ku.number)))
 
   pub closes : (words : List ℕ) (slots : List (Option V)) (id : ℕ) (v : View I B) → v.spent ≡ false → v.stage ≡ Idle → HasEveryNumber v → Final (Seen (IsRuled log_of base_of owner) id v) words slots
       → (value : V) × (get_elem? slots 0 ≡ some (Some value)) × IsClosed log_of base_of owner v value

@@ -1,5 +1,5 @@
 -- One seat takes in what all passes know, and what it knows of the value at the end.
-use Rattle.std.proofs.Common.{◌≡◌, ℕ, ◌<◌, ◌⊎◌, false, Option, Some, List, [], ◌∷◌, ◌++◌, length, get_or, slice_get, All, Contains, sym, refl, ap, ◌∙◌, subst, ⊎_elim, inl, inr, arith, append_assoc}
+use Rattle.std.proofs.Common.{◌≡◌, ℕ, false, Option, List, [], ◌∷◌, ◌++◌, length, get_or, All, Contains, sym, ap, ◌∙◌, subst, ⊎_elim, inl, inr, arith, append_assoc}
 use Rattle.std.proofs.lemmas.List.{append-nil}
 use Rattle.std.proofs.lemmas.List.Elements.{Contains-append_left, Contains-append_right}
 use Rattle.atomic_table.specs.Seated.{TableId}
@@ -8,7 +8,7 @@ use Rattle.com_turn.specs.declared.view.Known.{Known}
 use Rattle.com_turn.specs.declared.view.Stage.TheVariants.{Idle}
 use Rattle.com_turn.specs.declared.view.View.{View}
 use Rattle.com_turn.specs.Histories.{IsPrefixOf, items_of}
-use Rattle.com_turn.specs.Passes.{PassState, mine, IsReady, AreReady, IsKept, HasMarks, AgreeOnMarks}
+use Rattle.com_turn.specs.Passes.{PassState, IsReady, AreReady, IsKept, AgreeOnMarks}
 use Rattle.com_turn.specs.Views.{joined, known_of, Gathers}
 use Rattle.com_turn.specs.Rule.{Knows, HasEveryNumber, IsClosed}
 use Rattle.com_turn.proofs.Lists.{Some-injective, no_item, contains_cons, contains_first, contains_rest, slice_get-within, get_of_index, index_of_get, index_any}

@@ -1,5 +1,5 @@
 -- The seat at its turn adds an item of its own to the log.
-use Rattle.std.proofs.Common.{◌≡◌, ◌≢◌, ℕ, ◌+◌, ◌%◌, ◌^◌, ◌<◌, ◌≤◌, false, Option, Some, List, [], ◌∷◌, ◌++◌, length, set, slice_index, Contains, sym, refl, ap, ◌∙◌, subst, inr, arith, length-set, length-append, get_or-set_other, get_or-set_same}
+use Rattle.std.proofs.Common.{◌≡◌, ◌≢◌, ℕ, ◌+◌, ◌%◌, ◌^◌, ◌<◌, false, Option, Some, List, [], ◌∷◌, ◌++◌, length, set, slice_index, Contains, sym, refl, ap, ◌∙◌, subst, inr, arith, length-set, length-append, get_or-set_other, get_or-set_same}
 use mathlib.Core.Option.{some, none}
 use lib.ListN.{get_elem?}
 use Rattle.std.proofs.Math.Nat.{mod-eq_of_lt}
@@ -7,8 +7,8 @@ use Rattle.atomic_table.specs.Table.{Me, step, keeps, Allows}
 use Rattle.com_turn.specs.declared.view.Known.{Known}
 use Rattle.com_turn.specs.declared.view.Stage.TheVariants.{Holding}
 use Rattle.com_turn.specs.declared.view.View.{View}
-use Rattle.com_turn.specs.Views.{HasTicket, ticket_of, with_item}
-use Rattle.com_turn.specs.Rule.{History, Line, IsHome, IsStage, Knows, IsLive, IsRuled}
+use Rattle.com_turn.specs.Views.{HasTicket, with_item}
+use Rattle.com_turn.specs.Rule.{History, IsHome, IsStage, Knows, IsRuled}
 use Rattle.com_turn.specs.Steps.{Commits}
 use Rattle.com_turn.proofs.Lists.{Some-injective, no_item}
 use Rattle.com_turn.proofs.Fronts.{prefix_trans, prefix_more, prefix_length, items_of-other, seen_all, seen_other}

@@ -40,15 +40,15 @@ count_by-change f g at (suc n) from le lt same =
     let b = sum_by-cons (λ k. bit (g k)) from (range_with_len (from + 1) n) in
     dite (ℕ_discrete at from)
     (λ here.
-        let rest = count_by-same f g n (from + 1) (λ k far. same k (λ e. omega (arith, far, e, here))) in
-        let x : bit (f at) ≡ bit (f from) = ap (λ k. bit (f k)) here in
-        let y : bit (g at) ≡ bit (g from) = ap (λ k. bit (g k)) here in
-        omega (arith, a, b, rest, x, y))
+    let rest = count_by-same f g n (from + 1) (λ k far. same k (λ e. omega (arith, far, e, here))) in
+    let x : bit (f at) ≡ bit (f from) = ap (λ k. bit (f k)) here in
+    let y : bit (g at) ≡ bit (g from) = ap (λ k. bit (g k)) here in
+    omega (arith, a, b, rest, x, y))
     (λ further.
-        let head : bit (f from) ≡ bit (g from) = ap bit (same from (λ e. further (sym e))) in
-        let ne : at ≢ from = further in
-        let rest = count_by-change f g at n (from + 1) (omega (arith, le, ne)) (omega (arith, lt)) same in
-        omega (arith, a, b, head, rest))
+    let head : bit (f from) ≡ bit (g from) = ap bit (same from (λ e. further (sym e))) in
+    let ne : at ≢ from = further in
+    let rest = count_by-change f g at n (from + 1) (omega (arith, le, ne)) (omega (arith, lt)) same in
+    omega (arith, a, b, head, rest))
 
 -- one party became active or inactive
 pub active_count-change : (parties party : ℕ) (marks : List Mark) (active : Bool) → party < parties

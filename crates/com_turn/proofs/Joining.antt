@@ -1,5 +1,5 @@
 -- A view takes in another, which is spent.
-use Rattle.std.proofs.Common.{◌≡◌, ◌≢◌, ℕ, ◌<◌, ◌≤◌, false, true, cond, Bool, Option, Some, None, List, [], ◌∷◌, ◌++◌, length, set, Contains, sym, refl, ap, ◌∙◌, subst, ⊎_elim, arith, length-set}
+use Rattle.std.proofs.Common.{◌≡◌, ◌≢◌, ℕ, ◌<◌, false, true, cond, Bool, Option, Some, None, List, ◌∷◌, ◌++◌, length, set, Contains, sym, refl, ap, ◌∙◌, subst, ⊎_elim, arith, length-set}
 use mathlib.Core.Option.{some}
 use lib.ListN.{get_elem?}
 use Rattle.std.proofs.lemmas.List.Elements.{Contains-append_cases}
@@ -32,8 +32,8 @@ module _ {I B : Type 0} where
       → (old : Known I B) → Contains (joined v w).olds old → P old
   each_old v w P a b c d old h = ⊎_elim (λ (e : v.known ≡ old). subst P e a)
       (λ (h : Contains (w.known ∷ (v.olds ++ w.olds)) old). ⊎_elim (λ (e : w.known ≡ old). subst P e b)
-          (λ (h : Contains (v.olds ++ w.olds) old). ⊎_elim (c old) (d old) (Contains-append_cases v.olds w.olds old h))
-          (contains_cons w.known (v.olds ++ w.olds) old h))
+      (λ (h : Contains (v.olds ++ w.olds) old). ⊎_elim (c old) (d old) (Contains-append_cases v.olds w.olds old h))
+      (contains_cons w.known (v.olds ++ w.olds) old h))
       (contains_cons v.known (w.known ∷ (v.olds ++ w.olds)) old h)
 
   -- a fact on each live view after a join: on the one that took the other in, and on the others
@@ -42,9 +42,9 @@ module _ {I B : Type 0} where
   each_joined views id other v w P here others j u e live = ⊎_elim
       (λ (t : (j ≡ other) × (spent_view ≡ u)). absurd (clash (sym live ∙ sym (ap (λ (z : View I B). z.spent) t.1))))
       (λ (a : (j ≢ other) × (get_elem? (set views id (joined v w)) j ≡ some u)). ⊎_elim
-          (λ (t : (j ≡ id) × (joined v w ≡ u)). subst (λ (z : ℕ × View I B). P z.0 z.1) (λ k. (sym t.0 k, t.1 k)) here)
-          (λ (t : (j ≢ id) × (get_elem? views j ≡ some u)). others j u t.0 a.0 t.1 live)
-          (at_set views id j (joined v w) u a.1))
+      (λ (t : (j ≡ id) × (joined v w ≡ u)). subst (λ (z : ℕ × View I B). P z.0 z.1) (λ k. (sym t.0 k, t.1 k)) here)
+      (λ (t : (j ≢ id) × (get_elem? views j ≡ some u)). others j u t.0 a.0 t.1 live)
+      (at_set views id j (joined v w) u a.1))
       (at_set (set views id (joined v w)) other j spent_view u e)
 
   joined_from : (v w x : View I B) → AreApart v x → AreApart w x → AreApart (joined v w) x
@@ -116,9 +116,9 @@ module _ {V I B : Type 0} (log_of : V → List I) (base_of : V → B) (owner : I
         counts = each_joined s.views id other v w (λ _ u. IsCount owner r.history views u.count) tt (λ j u _ _ e lu. still_counts s r id other v w live lw at at_w u.count (r.counts j u e lu));
         apart = each_joined s.views id other v w (λ i x. EachLive (λ j u. i ≢ j → AreApart x u) views)
             (each_joined s.views id other v w (λ j u. id ≢ j → AreApart after u)
-                (λ (not : id ≢ id). absurd (not refl))
-                (λ j u ni nk e lu _. joined_from v w u (r.apart id v at live j u e lu (λ h. ni (sym h))) (r.apart other w at_w lw j u e lu (λ h. nk (sym h)))))
+            (λ (not : id ≢ id). absurd (not refl))
+            (λ j u ni nk e lu _. joined_from v w u (r.apart id v at live j u e lu (λ h. ni (sym h))) (r.apart other w at_w lw j u e lu (λ h. nk (sym h)))))
             (λ i x _ _ at_x lx. each_joined s.views id other v w (λ j u. i ≢ j → AreApart x u)
-                (λ ne. joined_to v w x (r.apart i x at_x lx id v at live ne))
-                (λ j u _ _ e lu ne. r.apart i x at_x lx j u e lu ne));
+            (λ ne. joined_to v w x (r.apart i x at_x lx id v at live ne))
+            (λ j u _ _ e lu ne. r.apart i x at_x lx j u e lu ne));
       }

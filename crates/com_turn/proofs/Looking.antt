@@ -8,14 +8,13 @@ use native.Mathlib.Decide.{ℕ_discrete}
 use lib.ListN.{get_elem?}
 use Rattle.atomic_table.specs.Table.{State, Me, step, keeps, takes, Allows, Valid, stepped, carried_after}
 use Rattle.atomic_table.proofs.Lists.{set_here, set_again, one_turn}
-use Rattle.com_turn.specs.declared.view.Mark.{Mark}
 use Rattle.com_turn.specs.declared.view.Stage.{Stage}
 use Rattle.com_turn.specs.declared.view.Stage.TheVariants.{Idle, Waiting, Holding}
 use Rattle.com_turn.specs.declared.view.View.{View}
-use Rattle.com_turn.specs.Histories.{IsPrefixOf, HasSeen}
+use Rattle.com_turn.specs.Histories.{HasSeen}
 use Rattle.com_turn.specs.Views.{HasTicket, tickets_out, ticket_of, served}
-use Rattle.com_turn.specs.Rule.{History, Line, IsHome, IsStage, IsRuled}
-use Rattle.com_turn.specs.Steps.{IsServed, Serves, Looks}
+use Rattle.com_turn.specs.Rule.{Line, IsHome, IsStage, IsRuled}
+use Rattle.com_turn.specs.Steps.{Serves, Looks}
 use Rattle.com_turn.proofs.Lists.{within, sum_by-few, Some-injective}
 use Rattle.com_turn.proofs.Fronts.{prefix_trans, seen_all}
 use Rattle.com_turn.proofs.Changes.{changed, active_same, has_ticket, stage_else}
@@ -63,7 +62,7 @@ module _ {V I B : Type 0} (log_of : V → List I) (base_of : V → B) (owner : I
       let v : View I B = me.0 in let w : View I B = served k (log_of value) r.history.marks v in
       let l = r.live id v at live in let kn = l.known in let line : Line = record r.line { holder = Some id } in let n : ℕ = slice_index s.words 1 in
       let items : HasSeen owner v.known.number (length v.known.opened) (log_of value) v.known.seen =
-          subst (λ (z : List I × List I). HasSeen owner v.known.number (length z.0) z.1 v.known.seen) (λ i. (sym kn.opened i, sym log i)) kn.items in
+      subst (λ (z : List I × List I). HasSeen owner v.known.number (length z.0) z.1 v.known.seen) (λ i. (sym kn.opened i, sym log i)) kn.items in
       let tickets = λ (j : ℕ) (u : View I B) (ne : j ≢ id) (e : get_elem? s.views j ≡ some u) (lu : u.spent ≡ false). (r.apart id v at live j u e lu (λ h. ne (sym h))).tickets k (has_ticket v.stage k (inl st)) in
       let told : Serves log_of base_of owner me k (w, (0, Some value) ∷ me.1) = (
         value,
@@ -135,9 +134,9 @@ module _ {V I B : Type 0} (log_of : V → List I) (base_of : V → B) (owner : I
       → Allows (IsRuled log_of base_of owner) slots id me 1 (λ n. n) (Looks log_of base_of owner (step slots 1 0 0 none) me)
   looks slots id me k st live s r wide at _ = dite (ℕ_discrete (slice_index s.words 1) (k % 2 ^ 64))
       (λ hit.
-          let stage = subst (IsStage r.history r.line id me.0) st (r.live id me.0 at live).stage in
-          let is = served_ticket s r k stage.0 stage.1 hit in
-          let free = nobody s r id me.0 k at live st is r.line.holder refl in
-          let home = subst (λ z. IsHome log_of base_of r.history.log r.history.base z s.homes) free r.home in
-          serves slots id me k s r home.0 st live at hit is stage.1 stage.2 home.1 home.2 home.3)
+      let stage = subst (IsStage r.history r.line id me.0) st (r.live id me.0 at live).stage in
+      let is = served_ticket s r k stage.0 stage.1 hit in
+      let free = nobody s r id me.0 k at live st is r.line.holder refl in
+      let home = subst (λ z. IsHome log_of base_of r.history.log r.history.base z s.homes) free r.home in
+      serves slots id me k s r home.0 st live at hit is stage.1 stage.2 home.1 home.2 home.3)
       (λ miss. misses slots id me k s r st at miss)

@@ -1,6 +1,5 @@
 -- The seat at its turn becomes active or inactive, or counts the active ones.
-use Rattle.std.proofs.Common.{◌≡◌, ◌≢◌, ℕ, ◌+◌, ◌-◌, ◌%◌, ◌^◌, ◌<◌, ◌≤◌, Bool, false, true, cond, Option, Some, List, [], ◌∷◌, ◌++◌, length, set, sum_by, slice_index, Contains, sym, refl, ap, ◌∙◌, subst, inr, arith, length-set, get_or-set_other, get_or-set_same}
-use Rattle.std.proofs.lemmas.List.{set-get_or}
+use Rattle.std.proofs.Common.{◌≡◌, ◌≢◌, ℕ, ◌+◌, ◌-◌, ◌%◌, ◌^◌, ◌≤◌, Bool, false, true, cond, Option, List, [], ◌∷◌, ◌++◌, length, set, sum_by, slice_index, Contains, sym, refl, ap, ◌∙◌, subst, inr, arith, length-set, get_or-set_other, get_or-set_same}
 use mathlib.Core.Option.{some, none}
 use lib.ListN.{get_elem?}
 use Rattle.std.proofs.Math.Nat.{mod-eq_of_lt, add-mod_right}
@@ -10,8 +9,8 @@ use Rattle.com_turn.specs.declared.view.Known.{Known}
 use Rattle.com_turn.specs.declared.view.Stage.TheVariants.{Holding}
 use Rattle.com_turn.specs.declared.view.View.{View}
 use Rattle.com_turn.specs.Marks.{mark_of, party_of, is_active, active_count}
-use Rattle.com_turn.specs.Views.{HasTicket, ticket_of, active_of, with_mark, with_found}
-use Rattle.com_turn.specs.Rule.{History, IsHome, IsStage, Knows, IsRuled}
+use Rattle.com_turn.specs.Views.{HasTicket, active_of, with_mark, with_found}
+use Rattle.com_turn.specs.Rule.{History, IsStage, Knows, IsRuled}
 use Rattle.com_turn.specs.Steps.{Enters, Leaves, CountsActive}
 use Rattle.com_turn.proofs.Lists.{no_item, sum_by-replaced, sum_by-few}
 use Rattle.com_turn.proofs.Fronts.{items_of-other, seen_all, seen_other}
@@ -62,7 +61,7 @@ module _ {V I B : Type 0} (log_of : V → List I) (base_of : V → B) (owner : I
               ∙ (let h = sum_by-replaced active_of s.views id v w at in let a = r.words.active in let one : active_of w ≡ cond active 1 0 = refl in omega (arith, h, a, is, one));
           marked = get_or-set_same s.words 3 n 0 (omega (arith, r.words.four))
               ∙ (let h = active_count-change r.history.parties party r.history.marks active kn.number in let a = r.words.marked in
-                  let one : active_of v ≡ cond (is_active party r.history.marks) 1 0 = ap (λ (b : Bool). cond b 1 0) l.active in omega (arith, h, a, is, one));
+              let one : active_of v ≡ cond (is_active party r.history.marks) 1 0 = ap (λ (b : Bool). cond b 1 0) l.active in omega (arith, h, a, is, one));
         };
         tickets = let t = r.tickets in omega (arith, t);
         home = r.home;

@@ -1,19 +1,17 @@
 -- The view that keeps the count gives the next number to a new view.
-use Rattle.std.proofs.Common.{◌≡◌, ◌≢◌, ◌==◌, ℕ, ◌+◌, ◌<◌, ◌≤◌, Bool, false, true, cond, Option, Some, None, List, [], ◌∷◌, ◌++◌, length, set, sum_by, filter, fold, Contains, sym, refl, ap, ◌∙◌, subst, ⊎_elim, arith, length-set, length-append, eqb}
+use Rattle.std.proofs.Common.{◌≡◌, ◌≢◌, ◌==◌, ℕ, ◌+◌, ◌<◌, Bool, false, true, cond, Option, Some, None, List, [], ◌∷◌, ◌++◌, length, set, sum_by, filter, fold, sym, refl, ap, ◌∙◌, subst, ⊎_elim, arith, length-set, length-append, eqb}
 use mathlib.Core.Option.{some}
 use lib.ListN.{get_elem?}
 use Rattle.std.proofs.lemmas.List.Sums.{sum_by-append, sum_by-cons}
 use Rattle.atomic_table.specs.Table.{Splits}
 use Rattle.atomic_table.proofs.Lists.{at_set, at_longer}
 use Rattle.com_turn.specs.declared.view.Mark.{Mark}
-use Rattle.com_turn.specs.declared.view.Known.{Known}
 use Rattle.com_turn.specs.declared.view.View.{View}
-use Rattle.com_turn.specs.Histories.{items_of}
-use Rattle.com_turn.specs.Marks.{party_of, is_active}
+use Rattle.com_turn.specs.Marks.{party_of}
 use Rattle.com_turn.specs.Views.{ticket_of, active_of, number_or_0, with_next_count, view_of_next}
 use Rattle.com_turn.specs.Rule.{History, IsLive, IsBelow, IsCount, AreApart, EachLive, IsRuled}
 use Rattle.com_turn.proofs.Lists.{None-Some, cons-nil, sum_by-replaced, at_end, no_item}
-use Rattle.com_turn.proofs.Fronts.{prefix_trans, prefix_length, seen_none}
+use Rattle.com_turn.proofs.Fronts.{prefix_length, seen_none}
 use Rattle.com_turn.proofs.Changes.{active_same, holder_same}
 
 -- a party without marks is not active
@@ -38,9 +36,9 @@ module _ {I B : Type 0} where
       → ((j : ℕ) (u : View I B) → j ≢ id → get_elem? views j ≡ some u → u.spent ≡ false → P j u) → EachLive P (set views id (with_next_count v) ++ view_of_next v ∷ [])
   each_split views id v P left right others j u e live = ⊎_elim
       (λ (a : get_elem? (set views id (with_next_count v)) j ≡ some u). ⊎_elim
-          (λ (t : (j ≡ id) × (with_next_count v ≡ u)). subst (λ (z : ℕ × View I B). P z.0 z.1) (λ k. (sym t.0 k, t.1 k)) left)
-          (λ (t : (j ≢ id) × (get_elem? views j ≡ some u)). others j u t.0 t.1 live)
-          (at_set views id j (with_next_count v) u a))
+      (λ (t : (j ≡ id) × (with_next_count v ≡ u)). subst (λ (z : ℕ × View I B). P z.0 z.1) (λ k. (sym t.0 k, t.1 k)) left)
+      (λ (t : (j ≢ id) × (get_elem? views j ≡ some u)). others j u t.0 t.1 live)
+      (at_set views id j (with_next_count v) u a))
       (λ (b : (j ≡ length (set views id (with_next_count v))) × (view_of_next v ≡ u)). subst (λ (z : ℕ × View I B). P z.0 z.1) (λ k. (sym (b.0 ∙ length-set views id (with_next_count v)) k, b.1 k)) right)
       (at_end (set views id (with_next_count v)) (view_of_next v) u j e)
 
@@ -115,29 +113,28 @@ module _ {V I B : Type 0} (log_of : V → List I) (base_of : V → B) (owner : I
               active = sym (fold_none (number_or_0 v.count) r.history.marks false no_marks);
             }
             (λ j u ne e lu. r.live j u e lu);
-        counts = each_split s.views id v (λ _ u. IsCount owner r.history views u.count)
-            (
-              let a = own.0 in omega (arith, many, a, number),
-              each_split s.views id v (λ _ u. IsBelow (number_or_0 v.count + 1) u)
-                  (let h = own.1 id v at live in (let a = h.0 in omega (arith, a, number), λ old c. let b = h.1 old c in omega (arith, b, number)))
-                  (omega arith, λ old c. absurd (no_item old c))
-                  (λ j u ne e lu. let h = own.1 j u e lu in (let a = h.0 in omega (arith, a, number), λ old c. let b = h.1 old c in omega (arith, b, number))),
-              λ party far. own.2 party (omega (arith, far, number)),
-              λ party far. own.3 party (omega (arith, far, number)),
-            )
+        counts = each_split s.views id v (λ _ u. IsCount owner r.history views u.count) (
+          let a = own.0 in omega (arith, many, a, number),
+          each_split s.views id v (λ _ u. IsBelow (number_or_0 v.count + 1) u)
+              (let h = own.1 id v at live in (let a = h.0 in omega (arith, a, number), λ old c. let b = h.1 old c in omega (arith, b, number)))
+              (omega arith, λ old c. absurd (no_item old c))
+              (λ j u ne e lu. let h = own.1 j u e lu in (let a = h.0 in omega (arith, a, number), λ old c. let b = h.1 old c in omega (arith, b, number))),
+          λ party far. own.2 party (omega (arith, far, number)),
+          λ party far. own.3 party (omega (arith, far, number)),
+        )
             tt
             (λ j u ne e lu. no_count owner r.history views u.count (λ n f. (others j u ne e lu).counts count n counts f));
         apart = each_split s.views id v (λ i x. EachLive (λ j u. i ≢ j → AreApart x u) views)
             (each_split s.views id v (λ j u. id ≢ j → AreApart left u)
-                (λ (not : id ≢ id). absurd (not refl))
-                (λ _. apart_from_count v right count counts (apart_next v v count number (own.1 id v at live)).0)
-                (λ j u ne e lu _. apart_from_count v u count counts (others j u ne e lu)))
+            (λ (not : id ≢ id). absurd (not refl))
+            (λ _. apart_from_count v right count counts (apart_next v v count number (own.1 id v at live)).0)
+            (λ j u ne e lu _. apart_from_count v u count counts (others j u ne e lu)))
             (each_split s.views id v (λ j u. length s.views ≢ j → AreApart right u)
-                (λ _. apart_to_count v right count counts (apart_next v v count number (own.1 id v at live)).1)
-                (λ (not : length s.views ≢ length s.views). absurd (not refl))
-                (λ j u ne e lu _. (apart_next v u count number (own.1 j u e lu)).1))
+            (λ _. apart_to_count v right count counts (apart_next v v count number (own.1 id v at live)).1)
+            (λ (not : length s.views ≢ length s.views). absurd (not refl))
+            (λ j u ne e lu _. (apart_next v u count number (own.1 j u e lu)).1))
             (λ i x other at_x lx. each_split s.views id v (λ j u. i ≢ j → AreApart x u)
-                (λ ne. apart_to_count v x count counts (r.apart i x at_x lx id v at live ne))
-                (λ _. (apart_next v x count number (own.1 i x at_x lx)).0)
-                (λ j u _ e lu ne. r.apart i x at_x lx j u e lu ne));
+            (λ ne. apart_to_count v x count counts (r.apart i x at_x lx id v at live ne))
+            (λ _. (apart_next v x count number (own.1 i x at_x lx)).0)
+            (λ j u _ e lu ne. r.apart i x at_x lx j u e lu ne));
       }

@@ -1,5 +1,5 @@
 -- The slot goes home, and the next ticket is served.
-use Rattle.std.proofs.Common.{◌≡◌, ◌≢◌, ℕ, ◌+◌, ◌%◌, ◌^◌, ◌≤◌, false, Option, Some, None, List, [], ◌∷◌, length, set, slice_index, sym, refl, ap, ◌∙◌, subst, inr, arith, length-set, get_or-set_other, get_or-set_same}
+use Rattle.std.proofs.Common.{◌≡◌, ℕ, ◌+◌, ◌%◌, ◌^◌, false, Option, Some, None, List, [], ◌∷◌, length, set, slice_index, sym, refl, ap, ◌∙◌, subst, inr, arith, length-set, get_or-set_other, get_or-set_same}
 use mathlib.Core.Option.{none}
 use Rattle.std.proofs.Math.Nat.{mod-add-mod}
 use Rattle.atomic_table.specs.Table.{Me, step, gives, Allows, put_back}

@@ -1,11 +1,11 @@
 -- What a pass's seat is between two calls.
-use Rattle.std.proofs.Common.{◌≡◌, ℕ, Bool, true, false, Option, Some, List, [], ◌∷◌, ◌++◌, length, sym, refl, ap, ◌∙◌, subst}
+use Rattle.std.proofs.Common.{◌≡◌, ℕ, true, false, Option, List, [], ◌∷◌, ◌++◌, length, sym, refl, ap, ◌∙◌, subst}
 use Rattle.atomic_table.specs.declared.shared.Seat.{Seat}
 use Rattle.com_turn.specs.declared.view.Stage.{Stage}
 use Rattle.com_turn.specs.declared.view.Stage.TheVariants.{Idle, Waiting, Holding}
 use Rattle.com_turn.specs.declared.view.View.{View}
 use Rattle.com_turn.specs.declared.view.Opening.{Opening}
-use Rattle.com_turn.specs.Histories.{IsPrefixOf, items_of}
+use Rattle.com_turn.specs.Histories.{IsPrefixOf}
 use Rattle.com_turn.specs.Passes.{PassState, mine}
 use Rattle.com_turn.specs.Views.{carried, is_at_turn, with_item, IsSettled}
 use Rattle.com_turn.proofs.Fronts.{prefix_more, prefix_length, items_of-own}

@@ -1,5 +1,5 @@
 -- The kinds of step on the table, and what each tells. Exchanging the slot that is out changes no view.
-use Rattle.std.specs.Prelude.{◌≡◌, ◌≢◌, ℕ, ◌%◌, ◌^◌, Bool, true, false, List, ◌∷◌, Option, None, Some, length}
+use Rattle.std.specs.Prelude.{◌≡◌, ◌≢◌, ℕ, ◌%◌, ◌^◌, true, false, List, ◌∷◌, Option, Some, length}
 use Rattle.atomic_table.specs.Table.{Me, Step, rest}
 use Rattle.com_turn.specs.declared.view.Stage.TheVariants.{Idle, Waiting}
 use Rattle.com_turn.specs.declared.view.View.{View}

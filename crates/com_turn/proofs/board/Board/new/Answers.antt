@@ -1,4 +1,4 @@
-use Rattle.std.proofs.Common.{rules, ◌∙◌, ◌∷◌, [], ◌++◌, List, Some, Option, sym, ap, subst}
+use Rattle.std.proofs.Common.{◌∙◌, ◌∷◌, [], ◌++◌, List, Some, Option, sym, ap, subst}
 use Rattle.atomic_table.specs.Table.{opening}
 use Rattle.com_turn.specs.Views.{first_view}
 use Rattle.com_turn.specs.Rule.{IsRuled}
