@@ -1,0 +1,16 @@
+mod Lists
+mod Fronts
+mod Counting
+mod Changes
+mod Drawing
+mod Looking
+mod Committing
+mod PassingOn
+mod Marking
+mod Numbering
+mod Joining
+mod Closing
+mod Beginning
+mod Settling
+mod Collecting
+mod Rows

@@ -1,0 +1,6 @@
+pub mod Histories
+pub mod Marks
+pub mod Passes
+pub mod Views
+pub mod Rule
+pub mod Steps

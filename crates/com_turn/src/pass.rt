@@ -1,0 +1,80 @@
+//! A party's pass.
+ghost use Rattle.std.specs.Prelude.{◌≡◌, [], false};
+ghost use Rattle.com_turn.specs.Views.{known_of, shown, IsSettled};
+ghost use Rattle.com_turn.specs.declared.view.Stage.TheVariants.{Idle};
+
+use crate::board::SeatOf;
+use crate::logged::Logged;
+use crate::view::Opening;
+use std::marker::Model;
+use std::snapshot::Snapshot;
+
+/// What one party has of a turn. Contracts see its number, the number of parties, the base and the log at the opening,
+/// the log as far as it has seen it, who became active or inactive until then, whether it is at its turn, whether it is
+/// active, how often it took the turn, and what `Turn::active` answered last in its last turn.
+#[derive(Drop)]
+pub struct Pass<V: Logged> {
+    pub(crate) seat: SeatOf<V>,
+    pub(crate) opening: Snapshot<Opening<V>>,
+    pub(crate) number: u32,
+    pub(crate) active: bool,
+}
+
+impl<V: Logged> Model for Pass<V> {
+    ghost use Rattle.std.specs.Prelude.{◌≡◌};
+    ghost use Rattle.com_turn.specs.Passes.{PassState};
+
+    ghost Value = { PassState V.Item V.Base };
+
+    ghost use Rattle.com_turn.specs.Views.{shown, IsSettled};
+
+    ghost view = { λ p. shown V.base p.opening.value p.seat };
+
+    ghost invariant = { λ p. IsSettled V.base p.opening.value p.seat × (p.number ≡ p.seat.me.0.known.number) × (p.active ≡ p.seat.me.0.active) };
+}
+
+impl<V: Logged> Pass<V> {
+    pub(crate) fn new(seat: SeatOf<V>, number: u32, opening: &Opening<V>) -> Pass<V>
+        requires settled { IsSettled V.base opening.now seat }
+        requires number { number ≡ seat.me.0.known.number }
+        requires inactive { seat.me.0.active ≡ false }
+        ensures { result ≡ shown V.base opening.now seat }
+    {
+        Pass {
+            seat,
+            opening: Snapshot::of(opening),
+            number,
+            active: false,
+        }
+    }
+
+    /// The party's number, from 0.
+    pub fn number(&self) -> u32
+        ensures { result ≡ self.now.number }
+    {
+        self.number
+    }
+
+    pub fn is_active(&self) -> bool
+        ensures { result ≡ self.now.active }
+    {
+        self.active
+    }
+
+    pub(crate) fn into_seat(self) -> SeatOf<V>
+        requires { self.at_turn ≡ false }
+        ensures turn { result.table_id ≡ self.turn }
+        ensures known { result.me.0.known ≡ known_of self }
+        ensures idle { (result.me.0.stage ≡ Idle) × (result.me.1 ≡ []) }
+        ensures live { (result.me.0.olds ≡ []) × (result.me.0.spent ≡ false) }
+        ensures active { result.me.0.active ≡ self.active }
+    {
+        let Pass {
+            seat,
+            opening: _,
+            number: _,
+            active: _,
+        } = self;
+        seat
+    }
+}

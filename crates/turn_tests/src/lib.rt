@@ -1,0 +1,185 @@
+//! Tests of com_turn: a diary that several parties write.
+#![tactic(auto)]
+
+ghost use Rattle.std.specs.Prelude.{◌≡◌, ◌+◌, ◌<◌, false, not, length, All, IfOk};
+ghost use Rattle.com_turn.specs.Passes.{AreReady};
+ghost use Rattle.turn_tests.specs.Diaries.{IsFree, IsAnother};
+
+use com_turn::{Logged, Pass, Turn};
+use std::alloc::{AllocError, Global};
+use std::sync::Wait;
+use std::thread;
+use std::thread::Threads;
+
+#[cfg(test)]
+mod tests;
+
+/// What one party wrote, with a number of its own.
+#[derive(Clone, Copy)]
+pub struct Row {
+    pub owner: u32,
+    pub number: u32,
+}
+
+#[derive(Drop)]
+pub struct Diary {
+    pub title: u32,
+    pub rows: Vec<Row>,
+}
+
+impl Logged for Diary {
+    type Item = Row;
+
+    type Base = u32;
+
+    ghost log = { λ d. d.rows.items };
+
+    ghost base = { λ d. d.title };
+
+    ghost owner = { λ row. row.owner };
+}
+
+/// An empty diary, and a pass for each of its writers.
+pub fn open(
+    alloc: Global,
+    title: u32,
+    parties: u32,
+) -> Result<(Turn<Diary>, Vec<Pass<Diary>>), AllocError>
+    requires { 0 < parties }
+    ensures ready { IfOk result (λ t. (length t.1.items ≡ parties) × AreReady t.0 t.1.items) }
+    ensures free { IfOk result (λ t. All (IsFree t.0) t.1.items) }
+{
+    let diary = Diary {
+        title,
+        rows: Vec::new(alloc),
+    };
+    match Turn::open(alloc, diary, parties) {
+        Ok(opened) => Ok(opened),
+        Err((_, error)) => Err(error),
+    }
+}
+
+/// The last pass of the list.
+pub fn last_pass(turn: &Turn<Diary>, passes: &mut Vec<Pass<Diary>>) -> Pass<Diary>
+    requires some { 0 < length passes.old.items }
+    requires free { All (IsFree turn.now) passes.old.items }
+    ensures rest { (length passes.new.items + 1 ≡ length passes.old.items) × All (IsFree turn.now) passes.new.items }
+    ensures free { IsFree turn.now result }
+{
+    let Some(pass) = passes.pop() else {
+        unreachable!()
+    };
+    pass
+}
+
+/// Writes a row in a turn, if there is memory.
+pub fn write_row(rt: &impl Wait, turn: &Turn<Diary>, pass: &mut Pass<Diary>, number: u32)
+    requires { (pass.old.turn ≡ turn.now) × (pass.old.at_turn ≡ false) }
+    ensures { IsAnother pass.old pass.new }
+{
+    let mut diary = turn.take(rt, pass);
+    let row = Row {
+        owner: pass.number(),
+        number,
+    };
+    if diary.rows.len() < 1 << 62 && diary.rows.push(row).is_ok() {
+        turn.commit(pass, &row);
+    }
+    turn.give(pass, diary);
+}
+
+/// Writes rows with the numbers from 0, each in a turn of its own.
+pub fn write_rows(
+    rt: &impl Wait,
+    turn: &Turn<Diary>,
+    pass: Pass<Diary>,
+    count: u32,
+) -> Pass<Diary>
+    requires { (pass.turn ≡ turn.now) × (pass.at_turn ≡ false) }
+    ensures { IsAnother pass result }
+{
+    let mut pass = pass;
+    for number in 0..count {
+        write_row(rt, turn, &mut pass, number);
+    }
+    pass
+}
+
+/// Two threads of a scope write rows, and whether both could be started.
+pub fn write_in_scope<R: Threads + Wait + Sync>(
+    rt: &R,
+    turn: &Turn<Diary>,
+    first: Pass<Diary>,
+    second: Pass<Diary>,
+    count: u32,
+) -> bool
+    requires { IsFree turn.now first × IsFree turn.now second }
+{
+    thread::scope(
+        thread::scope_env(),
+        rt,
+        |scope| -> bool
+            requires { IsFree turn.now first × IsFree turn.now second }
+        {
+            let one = scope.spawn(
+                move ||
+                    requires { IsFree turn.now first }
+                { drop(write_rows(rt, turn, first, count)) },
+            );
+            let other = scope.spawn(
+                move ||
+                    requires { IsFree turn.now second }
+                { drop(write_rows(rt, turn, second, count)) },
+            );
+            one.is_ok() && other.is_ok()
+        },
+    )
+}
+
+/// Each pass writes rows in a thread of its own.
+pub fn write_in_threads<R: Threads + Wait + Sync>(
+    rt: &R,
+    turn: &Turn<Diary>,
+    passes: Vec<Pass<Diary>>,
+    count: u32,
+) -> Result<Vec<Pass<Diary>>, AllocError>
+    requires { AreReady turn.now passes.items }
+    ensures { IfOk result (λ all. (length all.items ≡ length passes.items) × AreReady turn.now all.items) }
+{
+    thread::map_vec(
+        rt,
+        passes,
+        &|pass: Pass<Diary>| -> Pass<Diary>
+            requires { (pass.turn ≡ turn.now) × (pass.at_turn ≡ false) }
+            ensures { IsAnother pass result }
+        { write_rows(rt, turn, pass, count) },
+    )
+}
+
+/// In a turn of its own the pass becomes active where `enters` says so, or inactive, and counts the active ones.
+pub fn mark(rt: &impl Wait, turn: &Turn<Diary>, pass: &mut Pass<Diary>, enters: bool) -> u64
+    requires { (pass.old.turn ≡ turn.now) × (pass.old.at_turn ≡ false) × (pass.old.active ≡ not enters) }
+    ensures { (pass.new.turn ≡ turn.now) × (pass.new.at_turn ≡ false) × (pass.new.active ≡ enters) }
+{
+    let diary = turn.take(rt, pass);
+    if enters {
+        turn.enter(pass);
+    } else {
+        turn.leave(pass);
+    }
+    let count = turn.active(pass);
+    turn.give(pass, diary);
+    count
+}
+
+/// How many are active, and how many rows there are.
+pub fn look(rt: &impl Wait, turn: &Turn<Diary>, pass: &mut Pass<Diary>) -> (u64, usize)
+    requires { (pass.old.turn ≡ turn.now) × (pass.old.at_turn ≡ false) }
+    ensures { IsAnother pass.old pass.new }
+{
+    let diary = turn.take(rt, pass);
+    let count = turn.active(pass);
+    let rows = diary.rows.len();
+    turn.give(pass, diary);
+    (count, rows)
+}
