@@ -1,0 +1,4 @@
+pub mod Programs
+mod Written
+mod Rows
+mod ProgramRows

@@ -1,0 +1,4 @@
+pub mod Characters
+pub mod Lines
+pub mod Fronts
+pub mod Lexing
