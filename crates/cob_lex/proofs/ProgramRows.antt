@@ -1,5 +1,6 @@
 -- The tokens of whole programs.
 use Rattle.std.proofs.Common.{◌≡◌, ℕ, List, [], ◌∷◌, ◌++◌, Ok, refl, codes}
+use Rattle.cob_lex.specs.Fronts.{front_of}
 use Rattle.cob_lex.specs.Lexing.{tokens_of, lines_tokens, text_tokens}
 use Rattle.cob_lex.proofs.Programs.{echo, leaver, orders}
 use Rattle.cob_lex.proofs.Written.{on, word, number, literal, picture, period, equal}
@@ -29,7 +30,7 @@ echo_tokens : tokens_of echo ≡ Ok (
     on 22 650 (word 12 (codes "MOVE") ∷ word 17 (codes "IN-FROM") ∷ word 25 (codes "TO") ∷ word 28 (codes "OUT-TO") ∷ period 34 (codes ".") ∷ []) ++
     on 23 685 (word 12 (codes "SEND") ∷ word 17 (codes "OUTQ") ∷ word 22 (codes "FROM") ∷ word 27 (codes "BUF") ∷ word 31 (codes "WITH") ∷ word 36 (codes "EMI") ∷ period 39 (codes ".") ∷ []) ++
     on 24 725 (word 12 (codes "GO") ∷ word 15 (codes "TO") ∷ word 18 (codes "NEXT-ONE") ∷ period 26 (codes ".") ∷ []))
-unfolding lines_tokens text_tokens
+unfolding lines_tokens text_tokens front_of
 echo_tokens = refl
 
 leaver_tokens : tokens_of leaver ≡ Ok (
@@ -42,7 +43,7 @@ leaver_tokens : tokens_of leaver ≡ Ok (
     on 7 142 (word 12 (codes "STOP") ∷ word 17 (codes "RUN") ∷ period 20 (codes ".") ∷ []) ++
     on 8 163 (word 8 (codes "B1") ∷ period 10 (codes ".") ∷ []) ++
     on 9 174 (word 12 (codes "GO") ∷ word 15 (codes "TO") ∷ word 18 (codes "A1") ∷ period 20 (codes ".") ∷ []))
-unfolding lines_tokens text_tokens
+unfolding lines_tokens text_tokens front_of
 leaver_tokens = refl
 
 orders_tokens : tokens_of orders ≡ Ok (
@@ -103,5 +104,5 @@ orders_tokens : tokens_of orders ≡ Ok (
     on 56 1893 (word 16 (codes "AFTER") ∷ word 22 (codes "ADVANCING") ∷ number 32 (codes "1") ∷ word 34 (codes "LINE") ∷ period 38 (codes ".") ∷ []) ++
     on 57 1932 (word 8 (codes "ONE-ORDER-END") ∷ period 21 (codes ".") ∷ []) ++
     on 58 1954 (word 12 (codes "EXIT") ∷ period 16 (codes ".") ∷ []))
-unfolding lines_tokens text_tokens
+unfolding lines_tokens text_tokens front_of
 orders_tokens = refl

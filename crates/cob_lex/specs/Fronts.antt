@@ -1,7 +1,6 @@
 -- What stands at the front of the rest of a line.
-use Rattle.std.specs.Prelude.{ℕ, ◌+◌, ◌-◌, Bool, true, false, not, ◌&&◌, ◌||◌, ◌==◌, nat_le, if◌then◌else◌, List, [], ◌∷◌, length, slice_index, take, take_while, Option, Some, None, codes, bytes_eq}
+use Rattle.std.specs.Prelude.{ℕ, ◌≤◌, ◌+◌, ◌-◌, Bool, true, false, not, ◌&&◌, ◌||◌, ◌==◌, nat_le, if◌then◌else◌, List, [], ◌∷◌, length, slice_index, take, drop, take_while, Option, Some, None, codes, bytes_eq}
 use Rattle.std.specs.List.{list_all, list_any}
-use Rattle.std.specs.Option.{option_map}
 use Rattle.com_text.specs.Name.{is_letter, is_digit, is_hyphen}
 use Rattle.cob_lex.specs.declared.fault.SourceKind.{SourceKind}
 use Rattle.cob_lex.specs.declared.fault.SourceKind.TheVariants as faults
@@ -11,13 +10,16 @@ use Rattle.cob_lex.specs.declared.front.Awaited.{Awaited}
 use Rattle.cob_lex.specs.declared.front.Awaited.TheVariants as awaited
 use Rattle.cob_lex.specs.declared.front.Front.{Front}
 use Rattle.cob_lex.specs.declared.front.Front.TheVariants as fronts
+use Rattle.cob_lex.specs.Literals.{closing, is_literal}
 use Rattle.cob_lex.specs.Characters.{is_word_byte, is_no_space, is_quote, is_period, is_separator, is_spacing, space_next, without_last}
+
+-- no hyphen stands at either end
+abbrev pub is_hyphen_free : List ℕ → Bool
+is_hyphen_free run = not (is_hyphen (slice_index run 0) || is_hyphen (slice_index run (length run - 1)))
 
 -- a word: at most 30 characters, at least one letter, and no hyphen at either end
 abbrev pub is_word : List ℕ → Bool
-is_word run =
-    (list_any is_letter run && nat_le (length run) 30)
-    && (not (is_hyphen (slice_index run 0)) && not (is_hyphen (slice_index run (length run - 1))))
+is_word run = list_any is_letter run && (nat_le (length run) 30 && is_hyphen_free run)
 
 -- a number: at most 18 digits
 abbrev pub is_number : List ℕ → Bool
@@ -29,27 +31,6 @@ run_front run =
     if is_word run then fronts.Token tokens.Word (length run)
     else if is_number run then fronts.Token tokens.Number (length run)
     else fronts.Fault faults.BadWord
-
--- how many bytes stand before the closing quotation mark: two together are none
-abbrev pub closing : List ℕ → Option ℕ
-closing [] = None
-closing (byte ∷ []) = if is_quote byte then Some 0 else None
-closing (byte ∷ next ∷ rest) =
-    if is_quote byte
-    then (if is_quote next then option_map (λ n. 2 + n) (closing rest) else Some 0)
-    else option_map (λ n. 1 + n) (closing (next ∷ rest))
-
--- the characters between the quotation marks of a literal: two quotation marks stand for one
-abbrev pub characters_of : List ℕ → List ℕ
-characters_of [] = []
-characters_of (byte ∷ []) = byte ∷ []
-characters_of (byte ∷ next ∷ rest) =
-    if is_quote byte && is_quote next then byte ∷ characters_of rest
-    else byte ∷ characters_of (next ∷ rest)
-
--- a literal has 1 to 120 characters
-abbrev pub is_literal : List ℕ → Bool
-is_literal inside = nat_le 1 (length (characters_of inside)) && nat_le (length (characters_of inside)) 120
 
 -- a literal, by the bytes behind its opening quotation mark
 abbrev pub literal_front : List ℕ → Option ℕ → Front
@@ -72,11 +53,13 @@ abbrev pub sign_front : Option TokenKind → Front
 sign_front None = fronts.Fault faults.BadCharacter
 sign_front (Some kind) = fronts.Token kind 1
 
--- a byte and the rest behind it, where they are no picture
-abbrev pub plain_front : ℕ → List ℕ → Front
-plain_front byte rest =
+-- what stands at the front where it is no picture
+abbrev pub plain_front : List ℕ → Front
+plain_front bytes =
+    let byte = slice_index bytes 0 in
+    let rest = drop 1 bytes in
     if is_spacing byte rest then fronts.Spacing
-    else if is_word_byte byte then run_front (take_while is_word_byte (byte ∷ rest))
+    else if is_word_byte byte then run_front (take_while is_word_byte bytes)
     else if is_quote byte then literal_front rest (closing rest)
     else sign_front (sign_kind byte rest)
 
@@ -104,12 +87,18 @@ picture_front awaits run =
     if is_awaited_is awaits run then fronts.Token tokens.Word (length run)
     else fronts.Token tokens.Picture (length run)
 
--- what stands at the front of a byte and the rest behind it
-abbrev pub front_of : Awaited → ℕ → List ℕ → Front
-front_of awaits byte rest =
-    if is_picture_front awaits (picture_run (byte ∷ rest))
-    then picture_front awaits (picture_run (byte ∷ rest))
-    else plain_front byte rest
+-- what stands at the front of bytes, of which there is one at least
+unfoldable pub front_of : Awaited → List ℕ → Front
+front_of awaits bytes =
+    if is_picture_front awaits (picture_run bytes)
+    then picture_front awaits (picture_run bytes)
+    else plain_front bytes
+
+-- a token at the front has a byte, and no more than there are
+abbrev pub FitsIn : Front → ℕ → Type 0
+FitsIn fronts.Spacing size = Unit {0}
+FitsIn (fronts.Token kind n) size = (1 ≤ n) × (n ≤ size)
+FitsIn (fronts.Fault kind) size = Unit {0}
 
 -- the words behind which a picture comes
 abbrev pub is_picture_word : List ℕ → Bool

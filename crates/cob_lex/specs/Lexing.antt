@@ -61,7 +61,7 @@ abbrev pub by_front : Awaited → Place → ℕ → List ℕ → Front → (Awai
 by_front awaits place at rest fronts.Spacing next = next awaits 0
 by_front awaits place at rest (fronts.Token kind length) next = do
   token ← token_of place at kind (take length rest)
-  others ← next (awaited_behind awaits kind token.text) (length - 1)
+  others ← next (awaited_behind awaits kind (take length rest)) (length - 1)
   Ok (with_token token others)
 by_front awaits place at rest (fronts.Fault kind) next = Err (fault_at place at kind)
 
@@ -71,7 +71,7 @@ unfoldable pub text_tokens : Awaited → ℕ → Place → ℕ → List ℕ → 
 text_tokens awaits behind place at [] = Ok (taken [] awaits)
 text_tokens awaits (suc behind) place at (byte ∷ rest) = text_tokens awaits behind place (at + 1) rest
 text_tokens awaits zero place at (byte ∷ rest) =
-    by_front awaits place at (byte ∷ rest) (front_of awaits byte rest) (λ next behind. text_tokens next behind place (at + 1) rest)
+    by_front awaits place at (byte ∷ rest) (front_of awaits (byte ∷ rest)) (λ next behind. text_tokens next behind place (at + 1) rest)
 
 -- the tokens of a line
 abbrev pub line_tokens : Awaited → Place → List ℕ → LineKind → Result Taken SourceFault

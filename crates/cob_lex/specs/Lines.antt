@@ -1,5 +1,5 @@
 -- The lines of a source in reference format: where they end, and which of them are read.
-use Rattle.std.specs.Prelude.{ℕ, ◌+◌, Bool, true, false, not, ◌&&◌, ◌||◌, ◌==◌, nat_lt, if◌then◌else◌, List, [], ◌∷◌, length, slice_index, take, drop, take_while, codes, bytes_eq}
+use Rattle.std.specs.Prelude.{◌≡◌, ℕ, ◌+◌, Bool, true, false, not, ◌&&◌, ◌||◌, ◌==◌, nat_lt, if◌then◌else◌, List, [], ◌∷◌, length, slice_index, take, drop, take_while, codes, bytes_eq}
 use Rattle.std.specs.List.{list_all, slice_split}
 use Rattle.cob_lex.specs.declared.lines.Place.{Place}
 use Rattle.cob_lex.specs.declared.lines.LineKind.{LineKind}
@@ -20,6 +20,12 @@ placed line start (part ∷ next ∷ parts) =
 -- the lines of a source, each with where it stands and without its end
 abbrev pub lines : List ℕ → List (Place × List ℕ)
 lines source = placed 1 0 (slice_split is_line_feed source)
+
+-- the first line of bytes, without its end, and with how many bytes it has it
+abbrev pub IsFirstLine : List ℕ → List ℕ → ℕ → Type 0
+IsFirstLine bytes first n = (line start : ℕ) →
+    placed line start (slice_split is_line_feed bytes)
+    ≡ (place line start, first) ∷ placed (line + 1) (start + n) (slice_split is_line_feed (drop n bytes))
 
 -- columns 8 to 72
 abbrev pub text_of : List ℕ → List ℕ
@@ -42,9 +48,8 @@ period_next (byte ∷ rest) = is_period byte && space_next rest
 -- the words that head a comment paragraph
 abbrev pub heads_comment : List ℕ → Bool
 heads_comment word =
-    ((bytes_eq word (codes "AUTHOR") || bytes_eq word (codes "INSTALLATION"))
-    || (bytes_eq word (codes "DATE-WRITTEN") || bytes_eq word (codes "DATE-COMPILED")))
-    || bytes_eq word (codes "SECURITY")
+    bytes_eq word (codes "AUTHOR") || bytes_eq word (codes "INSTALLATION") || bytes_eq word (codes "DATE-WRITTEN")
+    || bytes_eq word (codes "DATE-COMPILED") || bytes_eq word (codes "SECURITY")
 
 -- a rest begins with one of these words, and the next token is a period
 abbrev pub is_comment_heading : List ℕ → Bool
@@ -62,15 +67,20 @@ begins_paragraph text =
 abbrev pub is_comment_sign : ℕ → Bool
 is_comment_sign byte = (byte == 0x2A) || (byte == 0x2F)
 
+-- what a line with a space in column 7 is, by its columns 8 to 72
+abbrev pub text_kind : Bool → List ℕ → LineKind
+text_kind in_paragraph text =
+    if in_paragraph && is_area_a_blank text then kinds.Comment
+    else if begins_paragraph text then kinds.CommentParagraph
+    else kinds.Text
+
 -- what a line is, where it may stand behind a heading of a comment paragraph
 abbrev pub line_kind : Bool → List ℕ → LineKind
 line_kind in_paragraph line =
     if nat_lt (length line) 7 then kinds.Comment
     else if is_comment_sign (slice_index line 6) then kinds.Comment
     else if not (is_space (slice_index line 6)) then kinds.BadColumn
-    else if in_paragraph && is_area_a_blank (text_of line) then kinds.Comment
-    else if begins_paragraph (text_of line) then kinds.CommentParagraph
-    else kinds.Text
+    else text_kind in_paragraph (text_of line)
 
 -- whether a comment paragraph goes on behind a line
 abbrev pub paragraph_behind : Bool → LineKind → Bool

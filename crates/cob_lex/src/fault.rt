@@ -1,5 +1,5 @@
 //! What is wrong with a source, and where.
-use std::alloc::AllocError;
+use std::alloc::{AllocError, AllocFailed};
 use thiserror::Error;
 
 /// The kinds of fault of a source. Of two kinds at one place the first in this order is told.
@@ -51,4 +51,15 @@ pub enum SourceError {
     /// Memory ran out.
     #[error("memory ran out")]
     Memory(AllocError),
+}
+
+impl<T: Drop> From<AllocFailed<T>> for SourceError {
+    ghost use Rattle.std.specs.Prelude.{◌≡◌, alloc_error};
+    ghost use Rattle.cob_lex.specs.declared.fault.SourceError.TheVariants.{Memory};
+
+    ghost from_gives = { λ _ error. error ≡ Memory alloc_error };
+
+    fn from(_failed: AllocFailed<T>) -> SourceError {
+        SourceError::Memory(AllocError)
+    }
 }
