@@ -1,0 +1,10 @@
+pub mod Programs
+mod Written
+mod Rows
+mod ProgramRows
+pub mod Runs
+pub mod FirstLines
+pub mod LiteralSizes
+pub mod BadBytes
+pub mod Steps
+pub mod Refusals

@@ -1,0 +1,6 @@
+pub mod Characters
+pub mod Lines
+pub mod Literals
+pub mod Fronts
+pub mod Lexing
+pub mod Answers
