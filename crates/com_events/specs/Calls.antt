@@ -1,16 +1,19 @@
 -- Which calls are well formed, and which entries have a text.
 use Rattle.std.specs.Prelude.{◌≡◌, ℕ, ◌^◌, ◌<◌, ◌≤◌, List, length, IfSome}
-use Rattle.std.specs.List.{concat, AllByRecursion}
+use Rattle.std.specs.List.{AllByRecursion}
 use Rattle.com_text.specs.Text.{IsText}
 use Rattle.com_text.specs.Name.{IsName}
 use Rattle.com_msg.specs.Stamp.{IsMoment}
+use Rattle.com_msg.specs.Limits.{IsWithinLimits}
+use Rattle.com_msg.specs.Rendering.{IsAdvance}
+use Rattle.com_msg.specs.declared.rest.TheConstants.{MAX_SIZE}
+use Rattle.com_msg.specs.declared.sending.TheConstants.{MAX_ITEM_LENGTH}
 use Rattle.com_cd.specs.InputArea.{IsInputArea}
 use Rattle.com_cd.specs.OutputArea.{IsOutputArea}
 use Rattle.com_msg.specs.declared.message.RawMessage.{RawMessage}
-use Rattle.com_msg.specs.declared.sending.Advance.{Advance}
-use Rattle.com_msg.specs.declared.sending.Advance.TheVariants.{Before, After, BeforePage, AfterPage}
 use Rattle.com_msg.specs.declared.sending.Part.{Part}
 use Rattle.com_msg.specs.declared.sending.Part.TheVariants as part
+use Rattle.com_events.specs.declared.call.TheConstants.{MAX_KEY_LENGTH}
 use Rattle.com_events.specs.declared.call.Party.{Party}
 use Rattle.com_events.specs.declared.call.Party.TheVariants as party
 use Rattle.com_events.specs.declared.call.EndReason.{EndReason}
@@ -21,39 +24,25 @@ use Rattle.com_events.specs.declared.reply.Reply.{Reply}
 use Rattle.com_events.specs.declared.reply.Reply.TheVariants.{Started, Given, NoData, Refused, Waits, AreaIn, AreaOut, Arrived, Done}
 use Rattle.com_events.specs.declared.entry.Entry.{Entry}
 
--- at most 99 lines
-abbrev pub IsAdvance : Advance → Type 0
-IsAdvance (Before lines) = lines ≤ 99
-IsAdvance (After lines) = lines ≤ 99
-IsAdvance BeforePage = Unit {0}
-IsAdvance AfterPage = Unit {0}
-
--- an indicator with an advance of at most 99 lines, or none
+-- an indicator with an advance of as many lines as a terminal may advance, or none
 abbrev pub IsPart : Part → Type 0
 IsPart part.Portion = Unit {0}
 IsPart (part.Esi advance) = IsAdvance advance
 IsPart (part.Emi advance) = IsAdvance advance
 IsPart (part.Egi advance) = IsAdvance advance
 
--- an item of 1 to 2,000 characters
+-- one character or more, and as many as a SEND may have
 abbrev pub IsItem : List ℕ → Type 0
-IsItem item = IsText item × (1 ≤ length item) × (length item ≤ 2000)
+IsItem item = IsText item × (1 ≤ length item) × (length item ≤ MAX_ITEM_LENGTH)
 
--- a key of at most 10 characters
+-- as many characters as a key may have
 abbrev pub IsKey : List ℕ → Type 0
-IsKey key = IsText key × (length key ≤ 10)
+IsKey key = IsText key × (length key ≤ MAX_KEY_LENGTH)
 
--- a segment of at most 2,000 characters
-abbrev pub IsSegment : List ℕ → Type 0
-IsSegment segment = IsText segment × (length segment ≤ 2000)
-
--- a message from a terminal: 1 to 9,999 segments of at most 2,000 characters, with at most 9,999
--- in all
+-- a message from a terminal: texts, within the limits
 pub record IsTerminalMessage (message : RawMessage) : Type 0 where
-  pub some : 1 ≤ length message.segments
-  pub few : length message.segments ≤ 9999
-  pub each : AllByRecursion IsSegment message.segments
-  pub short : length (concat message.segments) ≤ 9999
+  pub texts : AllByRecursion IsText message.segments
+  pub limits : IsWithinLimits message
 
 -- the place of a fault can be written in 18 digits; the other reasons have no parts
 abbrev pub IsEndReason : EndReason → Type 0
@@ -67,7 +56,7 @@ IsEndReason finish.Idle = Unit {0}
 abbrev pub IsWellFormed : Call → Type 0
 IsWellFormed Start = Unit {0}
 IsWellFormed (Receive area kind size no_data) =
-    IsInputArea area × (1 ≤ size) × (size ≤ 2000)
+    IsInputArea area × (1 ≤ size) × (size ≤ MAX_SIZE)
 IsWellFormed (Count area) = IsInputArea area
 IsWellFormed (Send area part item) = IsOutputArea area × IsPart part × IfSome item IsItem
 IsWellFormed (SwitchInput on terminal area key) = IsInputArea area × IsKey key
@@ -103,7 +92,7 @@ AreNames names = IsText names × (length names ≡ 48)
 abbrev pub IsReplyTo : Call → Reply → Type 0
 IsReplyTo Start (Started names) = IfSome names AreNames
 IsReplyTo (Receive area kind size no_data) (Given after text) =
-    IsInputArea after × IsText text × (length text ≤ 2000)
+    IsInputArea after × IsText text × (length text ≤ MAX_SIZE)
 IsReplyTo (Receive area kind size no_data) (NoData after) = IsInputArea after
 IsReplyTo (Receive area kind size no_data) (Refused after) = IsInputArea after
 IsReplyTo (Receive area kind size no_data) Waits = Unit {0}

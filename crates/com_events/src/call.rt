@@ -3,6 +3,9 @@ use com_cd::{InArea, OutArea};
 use com_msg::{FrameFault, Kind, Part, RawMessage, Stamp};
 use com_text::{Name, Text};
 
+/// How many characters the key of an ENABLE or a DISABLE has at most.
+pub const MAX_KEY_LENGTH: usize = 10;
+
 /// Who makes a call.
 #[derive(Clone, Copy, Debug, PartialEq, Eq)]
 pub enum Party {
@@ -43,7 +46,8 @@ pub enum EndReason {
 pub enum Call {
     /// A run unit begins.
     Start,
-    /// RECEIVE of a message or a segment, for at most `size` characters, from 1 to 2,000.
+    /// RECEIVE of a message or a segment, for at most `size` characters, which is 1 to
+    /// [`MAX_SIZE`](com_msg::MAX_SIZE).
     Receive {
         area: InArea,
         kind: Kind,
@@ -55,20 +59,22 @@ pub enum Call {
     Count {
         area: InArea,
     },
-    /// SEND of the characters `from`, 1 to 2,000, or of an indicator alone.
+    /// SEND of the characters `from`, one to [`MAX_ITEM_LENGTH`](com_msg::MAX_ITEM_LENGTH) of
+    /// them, or of an indicator alone.
     Send {
         area: OutArea,
         part: Part,
         from: Option<Text>,
     },
-    /// ENABLE (`on`) or DISABLE of INPUT, or of INPUT TERMINAL. A key has at most 10 characters.
+    /// ENABLE (`on`) or DISABLE of INPUT, or of INPUT TERMINAL. A key has at most
+    /// [`MAX_KEY_LENGTH`] characters.
     SwitchInput {
         on: bool,
         terminal: bool,
         area: InArea,
         key: Text,
     },
-    /// ENABLE (`on`) or DISABLE of OUTPUT. A key has at most 10 characters.
+    /// ENABLE (`on`) or DISABLE of OUTPUT. A key has at most [`MAX_KEY_LENGTH`] characters.
     SwitchOutput {
         on: bool,
         area: OutArea,

@@ -1,3 +1,5 @@
+pub mod Begun
+pub mod Limits
 pub mod Places
 pub mod Portion
 pub mod Rendering

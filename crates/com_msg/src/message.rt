@@ -1,9 +1,19 @@
 //! Messages as they come from terminals.
-ghost use Rattle.std.specs.Prelude.{◌≡◌, IfOk};
+ghost use Rattle.std.specs.Prelude.{◌≡◌, ◌↔◌, ◌≤◌, All, IfOk, IsTrue, length};
+ghost use Rattle.com_msg.specs.Limits.{IsWithinLimits};
 
-use crate::Stamp;
+use crate::{Stamp, is_longer};
 use com_text::{Name, Rows, Text};
 use std::alloc::AllocError;
+
+/// How many segments a message from a terminal has at most.
+pub const MAX_SEGMENTS: usize = 9_999;
+
+/// How many characters a segment of a message from a terminal has at most.
+pub const MAX_SEGMENT_LENGTH: usize = 2_000;
+
+/// How many characters a message from a terminal has at most, in all its segments together.
+pub const MAX_MESSAGE_LENGTH: usize = 9_999;
 
 /// How a message ends: EMI ends the message, EGI the message and a group of messages.
 #[derive(Clone, Copy, Debug, PartialEq, Eq)]
@@ -48,6 +58,25 @@ impl RawMessage {
             end: self.end,
         })
     }
+
+    /// Whether the message has a segment and is within the limits of a message from a terminal:
+    /// [`MAX_SEGMENTS`], [`MAX_SEGMENT_LENGTH`] and [`MAX_MESSAGE_LENGTH`].
+    pub fn is_within_limits(&self) -> bool
+        ensures { IsTrue result ↔ IsWithinLimits self.now }
+    {
+        let segments = self.segments.as_slice();
+        let few = !segments.is_empty() && segments.len() <= MAX_SEGMENTS;
+        few && are_short(segments) && !is_longer(segments, MAX_MESSAGE_LENGTH)
+    }
+}
+
+/// Whether each segment is within the limit.
+fn are_short(segments: &[Text]) -> bool
+    ensures { IsTrue result ↔ All (λ segment. length segment ≤ MAX_SEGMENT_LENGTH) segments.now }
+{
+    segments
+        .iter()
+        .all(|segment| segment.as_bytes().len() <= MAX_SEGMENT_LENGTH)
 }
 
 /// Equal texts in the same order.

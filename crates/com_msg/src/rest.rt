@@ -10,6 +10,9 @@ use com_text::{Name, Text};
 use std::alloc::{AllocError, Global};
 use std::marker::Model;
 
+/// How many characters a RECEIVE asks for at most.
+pub const MAX_SIZE: u32 = 2_000;
+
 /// What a RECEIVE asks for.
 #[derive(Clone, Copy, Debug, PartialEq, Eq)]
 pub enum Kind {
@@ -60,7 +63,7 @@ impl Model for Rest {
 impl Rest {
     /// The whole of a message, of one segment or more.
     pub fn of(message: Message) -> Rest
-        requires some { 1 ≤ length message.segments }
+        requires not_empty { 1 ≤ length message.segments }
         ensures { result ≡ message }
     {
         let place = Place {

@@ -3,6 +3,12 @@
 use crate::End;
 use com_text::{Rows, Text};
 
+/// How many lines a terminal advances at most.
+pub const MAX_LINES: u8 = 99;
+
+/// How many characters the item of a SEND has at most.
+pub const MAX_ITEM_LENGTH: usize = 2_000;
+
 /// How far a terminal advances, and whether before or behind a text.
 #[derive(Clone, Copy, Debug, PartialEq, Eq)]
 pub enum Advance {
