@@ -1,0 +1,2 @@
+mod SendRows
+mod SwitchRows

@@ -1,0 +1,6 @@
+//! What units send to destinations: SEND, ENABLE OUTPUT and DISABLE OUTPUT.
+#![tactic(auto)]
+
+mod destination;
+
+pub use destination::Destination;
