@@ -8,7 +8,8 @@ use Rattle.com_msg.specs.declared.sending.OutMessage.{OutMessage}
 use Rattle.com_msg.specs.declared.sending.OutSegment.{OutSegment}
 use Rattle.com_msg.specs.declared.sending.Part.TheVariants as part
 use Rattle.com_send.specs.declared.destination.Destination.{Destination}
-use Rattle.com_send.specs.Outgoing.{Begun, nothing_begun, DestinationState, Outgoing, opening, drop_unit}
+use Rattle.com_msg.specs.Begun.{Begun, nothing_begun}
+use Rattle.com_send.specs.Outgoing.{DestinationState, Outgoing, opening, drop_unit}
 use Rattle.com_send.specs.Sending.{send, Answer}
 
 abbrev pub t1 : Destination

@@ -61,11 +61,13 @@ abbrev pub error_key : Option ℕ → List ℕ
 error_key None = codes "1"
 error_key (Some destination) = codes "0"
 
+-- the occurrence at a place has its error key
+abbrev pub keyed : List ℕ → ℕ × Option ℕ → List ℕ
+keyed area (at, destination) = set_out (field.Error at) area (error_key destination)
+
 -- each occurrence that was looked at has its error key
 abbrev pub with_error_keys : Found → List ℕ → List ℕ
-with_error_keys found area =
-    fold (λ written (at, destination). set_out (field.Error at) written (error_key destination))
-    area (enumerate_from 0 found)
+with_error_keys found area = fold keyed area (enumerate_from 0 found)
 
 -- the area with this status key
 abbrev pub with_status : Status → List ℕ → List ℕ

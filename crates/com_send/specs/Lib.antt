@@ -3,3 +3,4 @@ pub mod Keys
 pub mod Found
 pub mod Sending
 pub mod Switching
+pub mod Kept

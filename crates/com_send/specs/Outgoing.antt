@@ -1,14 +1,9 @@
 -- What is begun, queued and transmitted, destination by destination.
-use Rattle.std.specs.Prelude.{ℕ, Bool, List, [], map, replicate, Option, option_map, option_and_then, slice_get, slice_set}
-use Rattle.com_msg.specs.declared.sending.OutSegment.{OutSegment}
+use Rattle.std.specs.Prelude.{◌≡◌, ℕ, Bool, List, [], length, map, replicate, Option, option_map, option_and_then, slice_get, slice_set}
+use Rattle.std.specs.List.{All}
+use Rattle.com_msg.specs.Begun.{Begun, nothing_begun}
 use Rattle.com_msg.specs.declared.sending.OutMessage.{OutMessage}
 use Rattle.com_send.specs.declared.destination.Destination.{Destination}
-
--- What a unit has sent to a destination and not yet finished: whole segments, and the text behind
--- them.
-pub record Begun : Type 0 where
-  pub segments : List OutSegment
-  pub text : List ℕ
 
 -- A destination. Units are named by their numbers, from 0.
 pub record DestinationState : Type 0 where
@@ -25,9 +20,17 @@ pub record DestinationState : Type 0 where
 abbrev pub Outgoing : Type 0
 Outgoing = List DestinationState
 
--- a unit has begun nothing
-abbrev pub nothing_begun : Begun
-nothing_begun = record { segments = []; text = [] }
+-- What contracts see of `Outs`: the destinations, which no call changes, how many units send to
+-- them, and what is outgoing.
+pub record Outputs : Type 0 where
+  pub destinations : List Destination
+  pub units : ℕ
+  pub outgoing : Outgoing
+
+-- what is outgoing is so for each destination and each unit
+pub record AreFor (destinations : List Destination) (units : ℕ) (outgoing : Outgoing) : Type 0 where
+  pub many : length outgoing ≡ length destinations
+  pub begun : All (λ state. length state.begun ≡ units) outgoing
 
 -- a destination at the beginning, for so many units
 abbrev pub opening_state : ℕ → Destination → DestinationState

@@ -3,9 +3,8 @@ use Rattle.std.specs.Prelude.{ℕ, Bool, true, false, not, ◌&&◌, nat_le, Lis
 use Rattle.std.specs.List.{list_any, enumerate_from}
 use Rattle.std.specs.Str.{all_ascii_digits}
 use Rattle.com_text.specs.Digits.{number}
-use Rattle.com_msg.specs.declared.message.End.{End}
+use Rattle.com_msg.specs.Begun.{Begun, nothing_begun, with_text, ended, finished}
 use Rattle.com_msg.specs.declared.message.End.TheVariants.{Emi as with_emi, Egi as with_egi}
-use Rattle.com_msg.specs.declared.sending.Advance.{Advance}
 use Rattle.com_msg.specs.declared.sending.OutMessage.{OutMessage}
 use Rattle.com_msg.specs.declared.sending.Part.{Part}
 use Rattle.com_msg.specs.declared.sending.Part.TheVariants.{Portion, Esi, Emi, Egi}
@@ -14,23 +13,8 @@ use Rattle.com_cd.specs.declared.status.Status.{Status}
 use Rattle.com_cd.specs.declared.status.Status.TheVariants.{S00, S10, S20, S30, S50, S60}
 use Rattle.com_cd.specs.declared.output_area.OutField.TheVariants as field
 use Rattle.com_send.specs.declared.destination.Destination.{Destination}
-use Rattle.com_send.specs.Outgoing.{Begun, nothing_begun, DestinationState, Outgoing, with_begun}
+use Rattle.com_send.specs.Outgoing.{DestinationState, Outgoing, with_begun}
 use Rattle.com_send.specs.Found.{Found, find_destinations, is_among, has_unknown, at_each, with_status, with_keys}
-
--- characters behind the text so far
-abbrev pub add_text : List ℕ → Begun → Begun
-add_text text begun = record begun { text = begun.text ++ text }
-
--- the text so far is a segment; without text it is an empty one
-abbrev pub end_segment : Advance → Begun → Begun
-end_segment advance begun = record {
-  segments = begun.segments ++ record { text = begun.text; advance = advance } ∷ [];
-  text = [];
-}
-
--- the whole segments are a message
-abbrev pub message_of : Begun → End → OutMessage
-message_of begun end = record { segments = begun.segments; end = end }
 
 -- a finished message is transmitted where the destination is enabled, and else queued
 abbrev pub deliver : OutMessage → DestinationState → DestinationState
@@ -39,23 +23,24 @@ deliver message state =
     else record state { queued = state.queued ++ message ∷ [] }
 
 -- the message is delivered, and the unit has begun nothing
-abbrev pub finish : ℕ → Begun → End → DestinationState → DestinationState
-finish unit begun end state =
-    deliver (message_of begun end) (with_begun unit nothing_begun state)
+abbrev pub finish : ℕ → OutMessage → DestinationState → DestinationState
+finish unit message state = deliver message (with_begun unit nothing_begun state)
 
--- what a part makes of the text so far
+-- what a part makes of what the unit has begun
 abbrev pub serve_part : ℕ → Part → Begun → DestinationState → DestinationState
 serve_part unit Portion begun state = with_begun unit begun state
-serve_part unit (Esi advance) begun state = with_begun unit (end_segment advance begun) state
-serve_part unit (Emi advance) begun state = finish unit (end_segment advance begun) with_emi state
-serve_part unit (Egi advance) begun state = finish unit (end_segment advance begun) with_egi state
+serve_part unit (Esi advance) begun state = with_begun unit (ended advance begun) state
+serve_part unit (Emi advance) begun state = finish unit (finished advance with_emi begun) state
+serve_part unit (Egi advance) begun state = finish unit (finished advance with_egi begun) state
 
--- one destination of a SEND: the text is added, and the part ends what it ends
+-- the text is added to what the unit has begun, and the part ends what it ends
+abbrev pub serve_begun : ℕ → Part → List ℕ → DestinationState → Option Begun → DestinationState
+serve_begun unit part text state None = state
+serve_begun unit part text state (Some begun) = serve_part unit part (with_text text begun) state
+
+-- one destination of a SEND
 abbrev pub serve : ℕ → Part → List ℕ → DestinationState → DestinationState
-serve unit part text state = elim (slice_get state.begun unit) [
-  | None ↦ state
-  | Some begun ↦ serve_part unit part (add_text text begun) state
-]
+serve unit part text state = serve_begun unit part text state (slice_get state.begun unit)
 
 -- the leftmost TEXT LENGTH characters of the item, and none without an item; undefined where TEXT
 -- LENGTH is no number, or more than the item has
