@@ -143,7 +143,8 @@ impl OutArea {
     /// The characters of one field.
     pub fn get(&self, field: OutField) -> &[u8]
         requires { IsFieldOf (occurrences_of self.now) field }
-        ensures { result.now ≡ out_field field self.now }
+        ensures characters { result.now ≡ out_field field self.now }
+        ensures width { length result.now ≡ out_width field }
     {
         let start = field.start();
         &self.as_bytes()[start..start + field.width()]
@@ -167,6 +168,7 @@ impl OutArea {
         ensures count { result ≡ destination_count self.now }
         ensures positive { IfSome result (λ n. 1 ≤ n) }
         ensures few { IfSome result (λ n. n ≤ occurrences_of self.now) }
+        ensures most { IfSome result (λ n. n ≤ MAX_OCCURRENCES) }
     {
         let number = number_of(self.get(OutField::Count))?;
         if number == 0 || number > u64::from(self.occurrences) {

@@ -1,0 +1,18 @@
+use Rattle.std.proofs.Common.{ℕ, rules, ap, ◌∙◌, not, ◌&&◌}
+use Rattle.std.specs.Slice.Iter.{iter_rest}
+use Rattle.std.proofs.lemmas.Iterator.{YieldsList-from_slice}
+use Rattle.std.proofs.lemmas.Iterator.Consumers.{YieldsList-from_enumerate}
+use Rattle.std.proofs.lemmas.Iterator.Search.{any_from_yields_List}
+use borrow.Author.Tests.{tests}
+use Rattle.com_send.specs.Outgoing.{DestinationState}
+use Rattle.com_send.specs.Found.{is_among}
+use Rattle.com_send.proofs.Changing.{any_kept}
+use Rattle.com_send.proofs.outputs.has_disabled.Goals as goal
+
+pub returns : goal.returns
+returns c =
+    let outputs = c.args.outputs.now in
+    any_from_yields_List (λ (at, output). is_among c.args.found.now at && not output.on) _ _ _ c.any.ensures.ran
+    (YieldsList-from_enumerate (YieldsList-from_slice outputs (ap iter_rest c.enumerate.ensures.source ∙ c.iter.ensures.rest)) c.enumerate.ensures.count)
+    (λ x b q k. search (rules, tests))
+    ∙ any_kept (λ (at : ℕ) (state : DestinationState). is_among c.args.found.now at && not state.on) 0 outputs

@@ -1,0 +1,21 @@
+use Rattle.std.proofs.Common.{◌<◌, length, sym, ◌∙◌, arith}
+use Rattle.std.proofs.lemmas.List.{set-get_or}
+use Rattle.com_send.specs.Switching.{switch}
+use Rattle.com_send.proofs.Changing.{so_far_changed, so_far_same}
+use Rattle.com_send.proofs.outputs.switch_each.Goals.{then-is_among, else-is_among}
+use Rattle.com_send.proofs.outputs.switch_each.Goals as goal
+
+pub loop-at-preserved : goal.loop-at-preserved
+loop-at-preserved c =
+    let found = c.args.found.now in
+    let before = c.args.outputs.now in
+    let after = c.loop-at.outputs in
+    let at = c.loop-at.at in
+    let lent = c.index-outputs-at.result in
+    let within : at < length before = omega arith in
+    elim c.if-is_among.branch [
+      | then-is_among w ↦
+          rw w.outputs-is (so_far_changed found (switch c.args.on) before after at w.switch.new.self lent c.loop-at.invariant within (sym c.is_among.ensures ∙ w.if-is_among.true) w.switch.ensures)
+      | else-is_among w ↦
+          rw (w.outputs-is, set-get_or after at lent) (so_far_same found (switch c.args.on) before after at lent c.loop-at.invariant within (sym c.is_among.ensures ∙ w.if-is_among.false))
+    ]

@@ -1,0 +1,6 @@
+pub mod Outgoing
+pub mod Keys
+pub mod Found
+pub mod Sending
+pub mod Switching
+pub mod Kept

@@ -1,0 +1,163 @@
+//! All destinations: those that an area names are changed, and the others stay.
+ghost use Rattle.std.specs.Prelude.{◌≡◌, ◌<◌, length, map, IsTrue, IfOk, OnOk, OnErr};
+ghost use Rattle.std.specs.List.{All};
+ghost use Rattle.com_text.specs.Text.{IsText};
+ghost use Rattle.com_send.specs.Outgoing.{opening, drop_unit};
+ghost use Rattle.com_send.specs.Found.{at_each};
+ghost use Rattle.com_send.specs.Sending.{serve, has_disabled, send_status};
+ghost use Rattle.com_send.specs.Switching.{switch};
+ghost use Rattle.com_send.specs.Kept.{states_of, EachNamed, HasRoom, CanTransmit};
+
+use crate::Destination;
+use crate::areas::{has_unknown, is_among};
+use crate::output::Output;
+use com_cd::Status;
+use com_msg::Part;
+use std::alloc::{AllocError, Global};
+
+/// The outputs of destinations to which so many units have sent nothing.
+pub fn outputs_of(
+    alloc: Global,
+    destinations: &[Destination],
+    units: u32,
+) -> Result<Vec<Output>, AllocError>
+    ensures { IfOk result (λ outputs. states_of outputs.items ≡ opening destinations.now units) }
+{
+    let mut outputs = Vec::new(alloc);
+    for destination in destinations {
+        outputs.push(Output::new(alloc, destination.on, units)?)?;
+    }
+    Ok(outputs)
+}
+
+/// Serves each destination that is named, once, and answers the status key: 20 where a destination is
+/// unknown, else 10 where a known one is disabled, else 00. Without memory nothing changes.
+pub fn send_to(
+    outputs: &mut [Output],
+    found: &[Option<usize>],
+    unit: u32,
+    part: Part,
+    text: &[u8],
+) -> Result<Status, AllocError>
+    requires units { All (λ output. unit < length output.begun.items) outputs.old }
+    requires text { IsText text.now }
+    ensures status { IfOk result (λ status. status
+        ≡ send_status found.now (states_of outputs.old)) }
+    ensures ok { OnOk result (states_of outputs.new
+        ≡ at_each found.now (serve unit part text.now) (states_of outputs.old)) }
+    ensures err { OnErr result (states_of outputs.new ≡ states_of outputs.old) }
+{
+    make_room(outputs, found, unit, text.len())?;
+    let status = send_status(outputs, found);
+    serve(outputs, found, unit, part, text);
+    Ok(status)
+}
+
+/// Enables or disables each destination that is named. Without memory nothing changes.
+pub fn switch(outputs: &mut [Output], found: &[Option<usize>], on: bool) -> Result<(), AllocError>
+    ensures ok { OnOk result (states_of outputs.new
+        ≡ at_each found.now (switch on) (states_of outputs.old)) }
+    ensures err { OnErr result (states_of outputs.new ≡ states_of outputs.old) }
+{
+    if on {
+        make_room_to_transmit(outputs, found)?;
+    }
+    switch_each(outputs, found, on);
+    Ok(())
+}
+
+/// What a unit has begun is gone, at each destination.
+pub fn drop_unit(outputs: &mut [Output], unit: u32)
+    requires { All (λ output. unit < length output.begun.items) outputs.old }
+    ensures { states_of outputs.new ≡ drop_unit unit (states_of outputs.old) }
+{
+    for output in outputs.iter_mut() {
+        output.drop_unit(unit);
+    }
+}
+
+/// Makes room at each destination that is named for so many characters of a unit, and for a message
+/// that it finishes.
+fn make_room(
+    outputs: &mut [Output],
+    found: &[Option<usize>],
+    unit: u32,
+    characters: usize,
+) -> Result<(), AllocError>
+    requires { All (λ output. unit < length output.begun.items) outputs.old }
+    ensures states { states_of outputs.new ≡ states_of outputs.old }
+    ensures room { OnOk result
+        (EachNamed found.now (HasRoom unit characters) (length outputs.new) outputs.new) }
+{
+    for (at, output) in outputs.iter_mut().enumerate() {
+        if is_among(found, at) {
+            output.room(unit, characters)?;
+        }
+    }
+    Ok(())
+}
+
+/// Makes room to transmit all that is queued for the destinations that are named.
+fn make_room_to_transmit(outputs: &mut [Output], found: &[Option<usize>]) -> Result<(), AllocError>
+    ensures states { states_of outputs.new ≡ states_of outputs.old }
+    ensures room { OnOk result
+        (EachNamed found.now CanTransmit (length outputs.new) outputs.new) }
+{
+    for (at, output) in outputs.iter_mut().enumerate() {
+        if is_among(found, at) {
+            output.room_to_transmit()?;
+        }
+    }
+    Ok(())
+}
+
+/// Serves each destination that is named, once.
+fn serve(outputs: &mut [Output], found: &[Option<usize>], unit: u32, part: Part, text: &[u8])
+    requires text { IsText text.now }
+    requires room { EachNamed found.now (HasRoom unit (length text.now)) (length outputs.old)
+        outputs.old }
+    ensures { states_of outputs.new
+        ≡ at_each found.now (serve unit part text.now) (states_of outputs.old) }
+{
+    for (at, output) in outputs.iter_mut().enumerate() {
+        if is_among(found, at) {
+            output.serve(unit, part, text);
+        }
+    }
+}
+
+/// Enables or disables each destination that is named.
+fn switch_each(outputs: &mut [Output], found: &[Option<usize>], on: bool)
+    requires { IsTrue on → EachNamed found.now CanTransmit (length outputs.old) outputs.old }
+    ensures { states_of outputs.new ≡ at_each found.now (switch on) (states_of outputs.old) }
+{
+    for (at, output) in outputs.iter_mut().enumerate() {
+        if is_among(found, at) {
+            output.switch(on);
+        }
+    }
+}
+
+/// The status key of a SEND that is served: 20 where a destination is unknown, else 10 where a known
+/// one is disabled, else 00.
+fn send_status(outputs: &[Output], found: &[Option<usize>]) -> Status
+    ensures { result ≡ send_status found.now (states_of outputs.now) }
+{
+    if has_unknown(found) {
+        Status::S20
+    } else if has_disabled(outputs, found) {
+        Status::S10
+    } else {
+        Status::S00
+    }
+}
+
+/// Whether a destination that is named is disabled.
+fn has_disabled(outputs: &[Output], found: &[Option<usize>]) -> bool
+    ensures { result ≡ has_disabled found.now (states_of outputs.now) }
+{
+    outputs
+        .iter()
+        .enumerate()
+        .any(|(at, output)| is_among(found, at) && !output.on)
+}
