@@ -1,5 +1,6 @@
 //! What a program of cases needs. It reads a table from standard input, a call with its arguments on
-//! each line, and prints each line again with what the call answered behind it.
+//! each line, and prints each line again with what the call answered behind it, without spaces at
+//! its end.
 //!
 //! ```rust
 //! use case_lines::{Cases, Quoted, Words, answer_cases};
@@ -66,6 +67,7 @@ where
         let mut words = Words::new(&words);
         let call = words.bytes();
         let answer = cases.answer(call, &mut words)?;
+        let answer = answer.trim_end();
         println!(rt; "{line} = {answer}")?;
     }
     Ok(())

@@ -33,6 +33,16 @@ impl<'a> Words<'a> {
         }
     }
 
+    /// How many words are left.
+    pub fn len(&self) -> usize {
+        self.left.len()
+    }
+
+    /// Whether no word is left.
+    pub fn is_empty(&self) -> bool {
+        self.left.is_empty()
+    }
+
     /// The words that are left.
     pub fn rest(&mut self) -> &'a [Vec<u8>] {
         let rest = self.left;

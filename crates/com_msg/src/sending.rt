@@ -1,4 +1,6 @@
 //! Messages as they go to terminals.
+ghost use Rattle.std.specs.Prelude.{◌↔◌, IsTrue};
+ghost use Rattle.com_msg.specs.Rendering.{IsAdvance, IsRenderable};
 
 use crate::End;
 use com_text::{Rows, Text};
@@ -20,6 +22,18 @@ pub enum Advance {
     BeforePage,
     /// The text stands after a form feed.
     AfterPage,
+}
+
+impl Advance {
+    /// Whether it is by [`MAX_LINES`] lines at most, or to a page.
+    pub fn is_within_limits(self) -> bool
+        ensures { IsTrue result ↔ IsAdvance self }
+    {
+        match self {
+            Advance::Before(lines) | Advance::After(lines) => lines <= MAX_LINES,
+            Advance::BeforePage | Advance::AfterPage => true,
+        }
+    }
 }
 
 /// What the text of a SEND is a part of, and what it ends.
@@ -51,4 +65,16 @@ pub struct OutMessage {
     pub segments: Rows<OutSegment>,
     /// How it ends.
     pub end: End,
+}
+
+impl OutMessage {
+    /// Whether a terminal can be sent it: each of its advances is within the limits.
+    pub fn is_renderable(&self) -> bool
+        ensures { IsTrue result ↔ IsRenderable self.now }
+    {
+        let segments = self.segments.as_slice();
+        segments
+            .iter()
+            .all(|segment| segment.advance.is_within_limits())
+    }
 }
