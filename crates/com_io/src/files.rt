@@ -71,12 +71,16 @@ fn read_to_limit<R: Source>(
     ensures read { IfOk result
         (λ bytes. IfSome (R.left source.old) (HasReadAll limit bytes.items (R.left source.new))) }
     ensures taken { IfSome (R.left source.old) (HasTaken limit 0 (R.left source.new)) }
+
+    // the count of failed reads
     ensures kept { OnOk result (R.faults source.new ≡ R.faults source.old) }
     ensures failed { IsErrOf result ReadFault.Failed
         → Rose (R.faults source.old) (R.faults source.new) }
-    ensures opened { IsErrOf result ReadFault.NotOpened → ⊥ }
     ensures memory { IsErrOf result ReadFault.Memory → R.faults source.new ≡ R.faults source.old }
     ensures later { R.faults source.old ≤ R.faults source.new }
+
+    // a source is open already
+    ensures opened { IsErrOf result ReadFault.NotOpened → ⊥ }
 {
     let mut bytes = Vec::new(alloc);
     while bytes.len() <= limit {
@@ -98,12 +102,16 @@ fn read_chunk<R: Source>(
         (R.left source.old) (R.left source.new)) }
     ensures taken { IfSome (R.left source.old)
         (HasTaken limit (length bytes.old.items) (R.left source.new)) }
+
+    // the count of failed reads
     ensures kept { OnOk result (R.faults source.new ≡ R.faults source.old) }
     ensures failed { IsErrOf result ReadFault.Failed
         → Rose (R.faults source.old) (R.faults source.new) }
-    ensures opened { IsErrOf result ReadFault.NotOpened → ⊥ }
     ensures memory { IsErrOf result ReadFault.Memory → R.faults source.new ≡ R.faults source.old }
     ensures later { R.faults source.old ≤ R.faults source.new }
+
+    // a source is open already
+    ensures opened { IsErrOf result ReadFault.NotOpened → ⊥ }
 {
     let mut buffer = [0u8; CHUNK];
     let room = (limit - bytes.len()).min(CHUNK - 1) + 1;

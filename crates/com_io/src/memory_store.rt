@@ -43,7 +43,8 @@ struct FailingWrite {
     keep: usize,
 }
 
-/// Files and what is written, in memory.
+/// Files and what is written, in memory. Openings, writes, and the reads of each source are counted
+/// from 1; a call that answers `Memory` has changed nothing, and is not counted.
 #[derive(Debug)]
 pub struct MemoryStore {
     alloc: Global,

@@ -16,6 +16,11 @@ pub fn run(rt: &HostRuntime, words: &[Vec<u8>]) -> Result<String, AllocError> {
     let Some(stamp) = Stamp::new(b"740704", b"10203040") else {
         return String::from_str(alloc, "no stamp");
     };
-    let status = mcs(alloc, &command, &mut DirStore::new(rt), &FixedClock { stamp });
+    let status = mcs(
+        alloc,
+        &command,
+        &mut DirStore::new(rt),
+        &FixedClock { stamp },
+    );
     format!(in alloc; "{status}")
 }

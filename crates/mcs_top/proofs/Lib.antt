@@ -1,3 +1,4 @@
+mod CallLists
 mod CallTexts
 mod Documents
 mod LineParts

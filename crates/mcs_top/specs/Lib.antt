@@ -13,3 +13,4 @@ pub mod Performing
 pub mod Writes
 pub mod Reading
 pub mod Failing
+pub mod Calls

@@ -52,6 +52,10 @@ impl Texts {
             (contents_after (writes_of self.now)) (S.shows store.old).contents) }
         ensures err { IfErr result (λ fault. StopsAtWrite fault (writes_of self.now)
             (S.shows store.old).contents (S.shows store.new).contents) }
+
+        // the counts
+
+        // the counts
         ensures cause { HasCause (S.shows store.old).write_faults (S.shows store.new).write_faults
             (IsOk result) (IsErrOf result StoreFault.Failed) }
         ensures memory { IsErrOf result StoreFault.Memory → (S.shows store.new).write_faults
@@ -84,6 +88,8 @@ fn write_all<S: Store>(store: &mut S, outputs: &[Output<'_>]) -> Result<(), Stor
         (contents_after (map write_of outputs.now)) (S.shows store.old).contents) }
     ensures err { IfErr result (λ fault. StopsAtWrite fault (map write_of outputs.now)
         (S.shows store.old).contents (S.shows store.new).contents) }
+
+    // the counts
     ensures cause { HasCause (S.shows store.old).write_faults (S.shows store.new).write_faults
         (IsOk result) (IsErrOf result StoreFault.Failed) }
     ensures memory { IsErrOf result StoreFault.Memory → (S.shows store.new).write_faults
