@@ -1,0 +1,10 @@
+pub mod Words
+pub mod Lines
+pub mod Journals
+pub mod Scripts
+pub mod Choices
+pub mod Outcomes
+pub mod Reading
+pub mod Writing
+pub mod Faults
+pub mod Loops
