@@ -158,7 +158,7 @@ fn state_at_end(answer: &Result<(), FeedError>) -> State
     }
 }
 
-/// Reads a piece, and adds the messages that it ends. Without memory nothing is added.
+/// Reads a piece, and adds the messages that it ends. Without memory `into` stays as it was.
 fn feed_into(
     reading: &mut Reading,
     piece: &[u8],

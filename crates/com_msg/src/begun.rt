@@ -45,8 +45,8 @@ impl Open {
         }
     }
 
-    /// Makes room for `more` characters and for one more segment, and changes nothing else. It never
-    /// takes room away, and only want of memory is refused.
+    /// Makes room for `more` characters and for one more segment, and changes nothing else; it never
+    /// takes room away. The only error is want of memory.
     pub fn room(&mut self, more: usize) -> Result<(), AllocError>
         ensures begun { self.new.begun ≡ self.old.begun }
 

@@ -102,16 +102,20 @@ impl Rest {
     }
 
     /// Hands out the next characters, `size` of them at most: of the whole message, or of its
-    /// next segment alone. Err if memory runs out; the rest then stays as it was.
+    /// next segment alone. Without memory nothing changes.
     pub fn take(&mut self, kind: Kind, size: u32) -> Result<Portion, AllocError>
         requires unspent { 1 ≤ length self.old.segments }
         requires size { 1 ≤ size }
+
+        // What is given, and what is left.
         ensures portion { IfOk result (λ portion.
             (portion, self.new) ≡ take_portion kind size self.old) }
+        ensures err { OnErr result (self.new ≡ self.old) }
+
+        // What an area has room for.
         ensures short { IfOk result (λ portion. length portion.text ≤ size) }
         ensures text { IfOk result (λ portion. IsText portion.text) }
         ensures end_key { IfOk result (λ portion. IsEndKey portion.end_key) }
-        ensures err { OnErr result (self.new ≡ self.old) }
     {
         match kind {
             Kind::Message => self.take_of_message(size),

@@ -12,7 +12,7 @@ pub const MAX_COUNTED: usize = 999_999;
 /// How many digits the number of a counted field has at most.
 const COUNT_DIGITS: usize = 6;
 
-/// Adds a counted field at the end. Without memory nothing is added.
+/// Adds a counted field at the end. Without memory nothing changes.
 pub fn put_counted(out: &mut Rows<u8>, bytes: &[u8]) -> Result<(), AllocError>
     requires { IsCountable bytes.now }
     ensures ok { OnOk result (out.new ≡ out.old ++ counted_field bytes.now) }

@@ -53,7 +53,7 @@ pub fn number_of(bytes: &[u8]) -> Option<u64>
     Some(number)
 }
 
-/// Adds a number in decimal at the end, without leading zeros. Without memory nothing is added.
+/// Adds a number in decimal at the end, without leading zeros. Without memory nothing changes.
 pub fn put_number(out: &mut Rows<u8>, n: u64) -> Result<(), AllocError>
     ensures ok { OnOk result (out.new ≡ out.old ++ decimal n) }
     ensures err { OnErr result (out.new ≡ out.old) }

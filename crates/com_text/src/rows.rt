@@ -26,8 +26,7 @@ impl<T> Rows<T> {
         }
     }
 
-    /// Adds an item at the end. Without memory the list stays as it was, and the item is handed
-    /// back.
+    /// Adds an item at the end. Without memory nothing changes, and the item is handed back.
     pub fn push(&mut self, item: T) -> Result<(), (T, AllocError)>
         ensures ok { OnOk result (self.new ≡ self.old ++ item ∷ []) }
         ensures err { OnErr result (self.new ≡ self.old) }
@@ -91,7 +90,7 @@ impl<T: Drop> Rows<T> {
 }
 
 impl Rows<u8> {
-    /// Adds bytes at the end. Without memory nothing is added.
+    /// Adds bytes at the end. Without memory nothing changes.
     pub fn extend_from_slice(&mut self, bytes: &[u8]) -> Result<(), AllocError>
         ensures ok { OnOk result (self.new ≡ self.old ++ bytes.now) }
         ensures err { OnErr result (self.new ≡ self.old) }
@@ -99,7 +98,7 @@ impl Rows<u8> {
         self.items.extend_from_slice(bytes)
     }
 
-    /// Adds three parts at the end. Without memory nothing is added.
+    /// Adds three parts at the end. Without memory nothing changes.
     pub(crate) fn extend_all(
         &mut self,
         first: &[u8],
