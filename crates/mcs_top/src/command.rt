@@ -36,8 +36,9 @@ const SCRIPT_REFUSED: u8 = 8;
 /// - 8: SCRIPT is refused: too long, a bad header, or a line that is no call or whose call is not
 ///   allowed.
 ///
-/// With 2, 3, 5 and 8 one line is written to standard output and nothing else; a failure of that
-/// write leaves the status. Every opened file is closed.
+/// With 2, 3, 5 and 8 one line is written to standard output, in one write, and nothing else; a
+/// failure of that write leaves the status. Every opened file is closed, and no other is opened than
+/// the two, in their order.
 pub fn tool<S: Store>(alloc: Global, words: &[String], store: &mut S) -> u8
     ensures { IsOutcome (map string_bytes words.now) result (S.shows store.old) (S.shows store.new) }
 {
