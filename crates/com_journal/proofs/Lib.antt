@@ -1,0 +1,6 @@
+mod Options
+mod Numbers
+mod Fields
+mod Segments
+mod Spelled
+mod FieldLaws

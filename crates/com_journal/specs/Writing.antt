@@ -1,0 +1,49 @@
+-- How a line is written, field after field, for the functions that write one.
+use Rattle.std.specs.Prelude.{ℕ, List, [], ◌∷◌, ◌++◌, ◌≤◌, length, map, codes, decimal, Option, Some, None, IfSome, All}
+use Rattle.com_text.specs.Counted.{counted_field, IsCountable}
+use Rattle.com_msg.specs.declared.sending.Part.{Part}
+use Rattle.com_events.specs.declared.call.Party.{Party}
+use Rattle.com_events.specs.declared.call.Party.TheVariants as party
+use Rattle.com_events.specs.declared.call.Call.{Call}
+use Rattle.com_events.specs.declared.call.Call.TheVariants.{Start, Receive, Count, Send, SwitchInput, SwitchOutput, Arrive, Held, Stop, Finish}
+use Rattle.com_events.specs.declared.reply.Reply.{Reply}
+use Rattle.com_events.specs.declared.reply.Reply.TheVariants.{Started, Given, NoData, Refused, Waits, AreaIn, AreaOut, Arrived, Done}
+use Rattle.com_events.specs.declared.entry.Entry.{Entry}
+use Rattle.com_journal.specs.Lines.{call_fields, reply_fields}
+
+-- bytes, and fields behind them, each behind a space
+abbrev pub written : List ℕ → List (List ℕ) → List ℕ
+written bytes [] = bytes
+written bytes (field ∷ fields) = written (bytes ++ 32 ∷ field) fields
+
+-- the parts that are written as counted fields are short enough
+abbrev pub AreCountable : Call → Type 0
+AreCountable Start = Unit {0}
+AreCountable (Receive area kind size no_data) = Unit {0}
+AreCountable (Count area) = Unit {0}
+AreCountable (Send area part item) = IfSome item IsCountable
+AreCountable (SwitchInput on terminal area key) = IsCountable key
+AreCountable (SwitchOutput on area key) = IsCountable key
+AreCountable (Arrive stamp message) = All IsCountable message.segments
+AreCountable Held = Unit {0}
+AreCountable (Stop reason) = Unit {0}
+AreCountable (Finish reason) = Unit {0}
+
+abbrev pub IsCountableReply : Reply → Type 0
+IsCountableReply (Given area text) = IsCountable text
+IsCountableReply _ = Unit {0}
+
+-- the letter and the name of a party
+abbrev pub sort_of : Party → ℕ
+sort_of (party.Unit name) = 85
+sort_of (party.Terminal name) = 84
+
+abbrev pub name_of : Party → List ℕ
+name_of (party.Unit name) = name
+name_of (party.Terminal name) = name
+
+-- bytes, and the line of an entry behind them
+abbrev pub with_entry : List ℕ → Entry → List ℕ
+with_entry bytes entry =
+    written (written (written (bytes ++ sort_of entry.party ∷ []) (name_of entry.party ∷ []))
+    (call_fields entry.call)) (codes "=" ∷ reply_fields entry.reply)

@@ -1,0 +1,64 @@
+//! Whole lines.
+ghost use Rattle.std.specs.Prelude.{◌≡◌, ◌++◌, ◌∷◌, [], OnOk};
+ghost use Rattle.com_journal.specs.Writing.{written, with_entry, sort_of, name_of, AreCountable, IsCountableReply};
+ghost use Rattle.com_journal.specs.Outcomes.{Gives};
+ghost use Rattle.com_journal.specs.Reading.{call_of, entry_of};
+
+use crate::line::{Line, Unread};
+use crate::put::put_word;
+use crate::{call, reply};
+use com_events::{Call, Entry, Party};
+use com_text::Rows;
+use std::alloc::{AllocError, Global};
+
+/// The call whose text the bytes are.
+#[tactic(auto, unfolding(crate::specs::Reading::call_of))]
+pub(crate) fn call_of(alloc: Global, bytes: &[u8]) -> Result<(Party, Call), Unread>
+    ensures { Gives (λ found. found) result (call_of bytes.now) }
+{
+    let mut line = Line::new(bytes);
+    let found = call::read(alloc, &mut line)?;
+    line.end()?;
+    Ok(found)
+}
+
+/// The entry whose line the bytes are.
+#[tactic(auto, unfolding(crate::specs::Reading::entry_of))]
+pub(crate) fn entry_of(alloc: Global, bytes: &[u8]) -> Result<Entry, Unread>
+    ensures { Gives (λ entry. entry) result (entry_of bytes.now) }
+{
+    let mut line = Line::new(bytes);
+    let (party, call) = call::read(alloc, &mut line)?;
+    line.expect(b"=")?;
+    let reply = reply::read(alloc, &call, &mut line)?;
+    line.end()?;
+    Ok(Entry { party, call, reply })
+}
+
+/// Adds the line of an entry, without its end.
+pub(crate) fn put(out: &mut Rows<u8>, entry: &Entry) -> Result<(), AllocError>
+    requires call { AreCountable entry.now.call }
+    requires reply { IsCountableReply entry.now.reply }
+    ensures { OnOk result (out.new ≡ with_entry out.old entry.now) }
+{
+    put_party(out, &entry.party)?;
+    call::put(out, &entry.call)?;
+    put_word(out, b"=")?;
+    reply::put(out, &entry.reply)
+}
+
+fn put_party(out: &mut Rows<u8>, party: &Party) -> Result<(), AllocError>
+    ensures { OnOk result (out.new
+        ≡ written (out.old ++ sort_of party.now ∷ []) (name_of party.now ∷ [])) }
+{
+    match party {
+        Party::Unit(name) => {
+            out.extend_from_slice(b"U")?;
+            put_word(out, name.as_bytes())
+        }
+        Party::Terminal(name) => {
+            out.extend_from_slice(b"T")?;
+            put_word(out, name.as_bytes())
+        }
+    }
+}
