@@ -85,7 +85,7 @@ reads_number least most small = record {
       rw (word-complete (decimal n) rest (HasNoSpace-decimal n fits) end, number_in-word least most (decimal n) n small record { low = h.0; high = h.1; digits = refl }) refl;
 }
 
-chunk_parts : (n : ℕ) (field chunk rest : List ℕ) → cond (nat_lt (length field) n) None (Some (take n field, drop n field)) ≡ Some (chunk, rest) → (length chunk ≡ n) × (field ≡ chunk ++ rest)
+chunk_parts : (n : ℕ) (field chunk rest : List ℕ) → cond {A = Option (List ℕ × List ℕ)} (nat_lt (length field) n) None (Some (take n field, drop n field)) ≡ Some (chunk, rest) → (length chunk ≡ n) × (field ≡ chunk ++ rest)
 chunk_parts n field chunk rest h = elim (cases_Bool (nat_lt (length field) n)) [
   | inl short ↦ absurd (none-some _ (rw short at h))
   | inr long ↦

@@ -1,6 +1,6 @@
 -- Fields one behind another, each behind a space.
-use Rattle.std.proofs.Common.{◌≡◌, ℕ, List, [], ◌∷◌, ◌++◌, refl, sym, ap, ◌∙◌, append_assoc}
-use Rattle.std.proofs.lemmas.List.{append-nil}
+use Rattle.std.proofs.Common.{◌≡◌, ℕ, ◌+◌, ◌<◌, List, [], ◌∷◌, ◌++◌, length, map, get_or, take, refl, sym, ap, ◌∙◌, append_assoc}
+use Rattle.std.proofs.lemmas.List.{append-nil, map-append, take_more}
 use Rattle.com_journal.specs.Lines.{spaced}
 use Rattle.com_journal.specs.Writing.{written}
 
@@ -33,3 +33,9 @@ written-spelled bytes (field ∷ fields) =
 pub written-append : (bytes : List ℕ) (a b : List (List ℕ)) → written bytes (a ++ b) ≡ written (written bytes a) b
 written-append bytes [] b = refl
 written-append bytes (field ∷ a) b = written-append (bytes ++ 32 ∷ field) a b
+
+-- one more field behind those so far
+pub written_more : {A : Type 0} (bytes : List ℕ) (field : A → List ℕ) (xs : List A) (i : ℕ) (x d : A) → i < length xs → x ≡ get_or xs i d
+    → written bytes (map field (take (i + 1) xs)) ≡ written bytes (map field (take i xs)) ++ 32 ∷ field x
+written_more bytes field xs i x d within is =
+    rw (take_more xs i d within, ← is, map-append field (take i xs) (x ∷ [])) (written-append bytes (map field (take i xs)) (field x ∷ []))

@@ -128,7 +128,7 @@ pub(crate) fn put(out: &mut Rows<u8>, call: &Call) -> Result<(), AllocError>
             put_word(out, b"COUNT")?;
             put_field(out, area.as_bytes())
         }
-        Call::Send { area, part, from } => send::put_call(out, area, *part, from.as_ref()),
+        Call::Send { area, part, from } => send::put_call(out, area, *part, from),
         Call::SwitchInput {
             on,
             terminal,

@@ -1,7 +1,7 @@
 //! SEND.
-ghost use Rattle.std.specs.Prelude.{◌≡◌, ◌∷◌, [], codes, option_map, IfSome, OnOk};
-ghost use Rattle.com_text.specs.Counted.{IsCountable, counted_field};
-ghost use Rattle.com_journal.specs.Lines.{advance_field, part_fields, item_field};
+ghost use Rattle.std.specs.Prelude.{◌≡◌, ◌∷◌, [], IfSome, OnOk};
+ghost use Rattle.com_text.specs.Counted.{IsCountable};
+ghost use Rattle.com_journal.specs.Lines.{advance_field, part_fields, item_field, call_fields};
 ghost use Rattle.com_journal.specs.Writing.{written};
 ghost use Rattle.com_journal.specs.Outcomes.{Gives};
 ghost use Rattle.com_journal.specs.Reading.{advance_by, advance_of, indicated, indicator_at, part_at, item_at, send_at};
@@ -126,20 +126,27 @@ pub(crate) fn put_call(
     out: &mut Rows<u8>,
     area: &OutArea,
     part: Part,
-    from: Option<&Text>,
+    from: &Option<Text>,
 ) -> Result<(), AllocError>
-    requires { IfSome from (λ item. IsCountable item.now) }
-    ensures { OnOk result (out.new ≡ written (written (written out.old (codes "SEND" ∷ []))
-        (part_fields part)) (item_field (option_map (λ item. item.now) from)
-        ∷ counted_field area.now ∷ [])) }
+    requires { IfSome from.now IsCountable }
+    ensures { OnOk result
+        (out.new ≡ written out.old (call_fields (Call.Send area.now part from.now))) }
 {
     put_word(out, b"SEND")?;
     put_part(out, part)?;
-    match from {
-        Some(item) => put_field(out, item.as_bytes())?,
-        None => put_word(out, b"-")?,
-    }
+    put_item(out, from)?;
     put_field(out, area.as_bytes())
+}
+
+/// Adds an item, or a hyphen.
+fn put_item(out: &mut Rows<u8>, item: &Option<Text>) -> Result<(), AllocError>
+    requires { IfSome item.now IsCountable }
+    ensures { OnOk result (out.new ≡ written out.old (item_field item.now ∷ [])) }
+{
+    match item {
+        Some(text) => put_field(out, text.as_bytes()),
+        None => put_word(out, b"-"),
+    }
 }
 
 fn put_part(out: &mut Rows<u8>, part: Part) -> Result<(), AllocError>
