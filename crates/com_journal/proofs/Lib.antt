@@ -4,3 +4,7 @@ mod Fields
 mod Segments
 mod Spelled
 mod FieldLaws
+mod WordLaws
+mod CallLaws
+mod ReplyLaws
+mod LineLaws

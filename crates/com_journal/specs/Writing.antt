@@ -34,16 +34,16 @@ IsCountableReply (Given area text) = IsCountable text
 IsCountableReply _ = Unit {0}
 
 -- the letter and the name of a party
-abbrev pub sort_of : Party → ℕ
-sort_of (party.Unit name) = 85
-sort_of (party.Terminal name) = 84
+abbrev pub party_sort : Party → ℕ
+party_sort (party.Unit name) = 85
+party_sort (party.Terminal name) = 84
 
-abbrev pub name_of : Party → List ℕ
-name_of (party.Unit name) = name
-name_of (party.Terminal name) = name
+abbrev pub party_name : Party → List ℕ
+party_name (party.Unit name) = name
+party_name (party.Terminal name) = name
 
 -- bytes, and the line of an entry behind them
 abbrev pub with_entry : List ℕ → Entry → List ℕ
 with_entry bytes entry =
-    written (written (written (bytes ++ sort_of entry.party ∷ []) (name_of entry.party ∷ []))
+    written (written (written (bytes ++ party_sort entry.party ∷ []) (party_name entry.party ∷ []))
     (call_fields entry.call)) (codes "=" ∷ reply_fields entry.reply)

@@ -1,6 +1,6 @@
 //! Whole lines.
 ghost use Rattle.std.specs.Prelude.{◌≡◌, ◌++◌, ◌∷◌, [], OnOk};
-ghost use Rattle.com_journal.specs.Writing.{written, with_entry, sort_of, name_of, AreCountable, IsCountableReply};
+ghost use Rattle.com_journal.specs.Writing.{written, with_entry, party_sort, party_name, AreCountable, IsCountableReply};
 ghost use Rattle.com_journal.specs.Outcomes.{Gives};
 ghost use Rattle.com_journal.specs.Reading.{call_of, entry_of};
 
@@ -49,7 +49,7 @@ pub(crate) fn put(out: &mut Rows<u8>, entry: &Entry) -> Result<(), AllocError>
 
 fn put_party(out: &mut Rows<u8>, party: &Party) -> Result<(), AllocError>
     ensures { OnOk result (out.new
-        ≡ written (out.old ++ sort_of party.now ∷ []) (name_of party.now ∷ [])) }
+        ≡ written (out.old ++ party_sort party.now ∷ []) (party_name party.now ∷ [])) }
 {
     match party {
         Party::Unit(name) => {
