@@ -1,5 +1,5 @@
 -- The fields of a line: each is read just where it stands.
-use Rattle.std.proofs.Common.{◌≡◌, ℕ, suc, ◌+◌, ◌<◌, ◌≤◌, ◌^◌, true, false, not, None, Some, Option, List, [], ◌∷◌, ◌++◌, length, get_or, take, drop, refl, sym, ap, ◌∙◌, subst, inl, inr, option_map, nat_lt, nat_le, nat_eq, arith, append_assoc}
+use Rattle.std.proofs.Common.{◌≡◌, ℕ, suc, ◌+◌, ◌<◌, ◌≤◌, ◌^◌, Bool, true, false, not, None, Some, Option, List, [], ◌∷◌, ◌++◌, length, get_or, take, drop, refl, sym, ap, ◌∙◌, subst, inl, inr, option_map, nat_lt, nat_le, nat_eq, arith, append_assoc}
 use Rattle.std.specs.Prelude.{◌==◌, decimal, codes, slice_range}
 use Rattle.std.specs.List.{list_all, position, position_or_len, after_first, starts_with}
 use Rattle.std.specs.Option.{unwrap_or}
@@ -21,11 +21,11 @@ use Rattle.com_text.proofs.Numerals.{own_digits}
 use Rattle.com_journal.specs.Reading.{behind, is_space, split_counted}
 use Rattle.com_journal.proofs.Options.{option_map-Some, if-Some, None-of}
 
--- the place of the first space, or of the end
-pub end_of_word : (bytes : List ℕ) → unwrap_or (position is_space bytes) (length bytes) ≡ position_or_len is_space bytes
-end_of_word bytes =
-    let within = prefix_len-le-length (λ byte. not (is_space byte)) bytes in
-    elim (cases_Bool (nat_lt (position_or_len is_space bytes) (length bytes))) [
+-- the place of the first byte of a sort, or of the end
+pub place_or_end : (test : ℕ → Bool) (bytes : List ℕ) → unwrap_or (position test bytes) (length bytes) ≡ position_or_len test bytes
+place_or_end test bytes =
+    let within = prefix_len-le-length (λ byte. not (test byte)) bytes in
+    elim (cases_Bool (nat_lt (position_or_len test bytes) (length bytes))) [
       | inl before ↦ rw before refl
       | inr none ↦ rw none (grind (arith, nat_tests))
     ]

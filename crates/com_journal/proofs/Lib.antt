@@ -8,3 +8,12 @@ mod WordLaws
 mod CallLaws
 mod ReplyLaws
 mod LineLaws
+mod Plain
+mod JournalLaws
+mod Rows
+mod FirstLines
+mod Exact
+mod ScriptLaws
+mod Found
+mod Countable
+mod Histories

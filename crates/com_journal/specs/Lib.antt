@@ -6,3 +6,5 @@ pub mod Choices
 pub mod Outcomes
 pub mod Reading
 pub mod Writing
+pub mod Faults
+pub mod Loops

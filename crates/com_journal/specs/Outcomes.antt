@@ -12,6 +12,14 @@ abbrev pub Fails : {Y : Type 0} → Unread → Option Y → Type 0
 Fails unread.Refused read = read ≡ None
 Fails unread.Memory read = Unit {0}
 
+-- want of memory, and nothing else
+abbrev pub IsOutOfMemory : Unread → Type 0
+IsOutOfMemory unread.Refused = ⊥
+IsOutOfMemory unread.Memory = Unit {0}
+
+abbrev pub Is : {A : Type 0} → A → A → Type 0
+Is x y = y ≡ x
+
 abbrev pub Gives : {X Y : Type 0} → (X → Y) → Result X Unread → Option Y → Type 0
 Gives view (Ok x) read = read ≡ Some (view x)
 Gives view (Err e) read = Fails e read

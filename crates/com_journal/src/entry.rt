@@ -1,6 +1,12 @@
 //! Whole lines.
-ghost use Rattle.std.specs.Prelude.{◌≡◌, ◌++◌, ◌∷◌, [], OnOk};
-ghost use Rattle.com_journal.specs.Writing.{written, with_entry, party_sort, party_name, AreCountable, IsCountableReply};
+ghost use Rattle.std.specs.Prelude.{◌≡◌, ◌++◌, ◌∷◌, [], IfOk, OnOk, MatchResult};
+ghost use Rattle.com_events.specs.declared.call.Party.{Party as AParty};
+ghost use Rattle.com_events.specs.declared.call.Call.{Call as ACall};
+ghost use Rattle.com_events.specs.declared.entry.Entry.{Entry as AnEntry};
+ghost use Rattle.com_events.specs.Calls.{HasText};
+ghost use Rattle.com_journal.specs.Lines.{IsCallText, IsLine};
+ghost use Rattle.com_journal.specs.Outcomes.{Is, IsOutOfMemory};
+ghost use Rattle.com_journal.specs.Writing.{written, with_entry, party_sort, party_name};
 ghost use Rattle.com_journal.specs.Outcomes.{Gives};
 ghost use Rattle.com_journal.specs.Reading.{call_of, entry_of};
 
@@ -12,8 +18,25 @@ use com_text::Rows;
 use std::alloc::{AllocError, Global};
 
 /// The call whose text the bytes are.
-#[tactic(auto, unfolding(crate::specs::Reading::call_of))]
 pub(crate) fn call_of(alloc: Global, bytes: &[u8]) -> Result<(Party, Call), Unread>
+    ensures found { IfOk result (λ found. IsCallText found.0 found.1 bytes.now) }
+    ensures each_text { (party : AParty) (call : ACall) → IsCallText party call bytes.now
+        → MatchResult result (Is (party, call)) IsOutOfMemory }
+{
+    read_call(alloc, bytes)
+}
+
+/// The entry whose line the bytes are.
+pub(crate) fn entry_of(alloc: Global, bytes: &[u8]) -> Result<Entry, Unread>
+    ensures found { IfOk result (λ entry. IsLine entry bytes.now) }
+    ensures each_line { (entry : AnEntry) → IsLine entry bytes.now
+        → MatchResult result (Is entry) IsOutOfMemory }
+{
+    read_entry(alloc, bytes)
+}
+
+#[tactic(auto, unfolding(crate::specs::Reading::call_of))]
+fn read_call(alloc: Global, bytes: &[u8]) -> Result<(Party, Call), Unread>
     ensures { Gives (λ found. found) result (call_of bytes.now) }
 {
     let mut line = Line::new(bytes);
@@ -22,9 +45,8 @@ pub(crate) fn call_of(alloc: Global, bytes: &[u8]) -> Result<(Party, Call), Unre
     Ok(found)
 }
 
-/// The entry whose line the bytes are.
 #[tactic(auto, unfolding(crate::specs::Reading::entry_of))]
-pub(crate) fn entry_of(alloc: Global, bytes: &[u8]) -> Result<Entry, Unread>
+fn read_entry(alloc: Global, bytes: &[u8]) -> Result<Entry, Unread>
     ensures { Gives (λ entry. entry) result (entry_of bytes.now) }
 {
     let mut line = Line::new(bytes);
@@ -37,8 +59,7 @@ pub(crate) fn entry_of(alloc: Global, bytes: &[u8]) -> Result<Entry, Unread>
 
 /// Adds the line of an entry, without its end.
 pub(crate) fn put(out: &mut Rows<u8>, entry: &Entry) -> Result<(), AllocError>
-    requires call { AreCountable entry.now.call }
-    requires reply { IsCountableReply entry.now.reply }
+    requires { HasText entry.now }
     ensures { OnOk result (out.new ≡ with_entry out.old entry.now) }
 {
     put_party(out, &entry.party)?;

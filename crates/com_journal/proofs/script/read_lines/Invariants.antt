@@ -1,0 +1,13 @@
+use Rattle.std.proofs.Common.{◌+◌, ◌≤◌, length}
+use Rattle.com_journal.specs.Loops.{HasReadCalls}
+use Rattle.com_journal.proofs.script.read_lines.Given as goal
+
+-- the lines before the rest are read, of which there are no more than bytes
+abbrev pub invariant-loop-line : goal.invariant-loop-line
+invariant-loop-line l = record {
+  read : HasReadCalls l.fn.lines l.calls l.number l.lines;
+  few : l.number + length l.lines ≤ length l.fn.lines + 1;
+}
+
+abbrev pub decreases-loop-line : goal.decreases-loop-line
+decreases-loop-line l = length l.lines
