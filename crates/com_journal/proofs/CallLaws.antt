@@ -1,6 +1,7 @@
 -- Each call is read from its fields, and from no others.
 use Rattle.std.proofs.Common.{◌≡◌, ℕ, zero, suc, ◌+◌, ◌-◌, ◌<◌, ◌≤◌, ◌^◌, Bool, true, false, None, Some, Option, List, [], ◌∷◌, ◌++◌, length, map, get_or, refl, sym, ap, ◌∙◌, subst, inl, inr, option_map, nat_lt, cond, ◌⊎◌, length-append, arith}
-use Rattle.std.specs.Prelude.{decimal, codes, ◌==◌}
+use Rattle.std.specs.Prelude.{decimal, codes, All, ◌==◌}
+use Rattle.std.proofs.lemmas.List.Elements.{All-from_recursion, All-head, All-tail}
 use Rattle.std.specs.List.{concat, AllByRecursion}
 use Rattle.std.specs.Str.{bytes_eq}
 use Rattle.std.specs.Option.{IfSome}
@@ -15,6 +16,7 @@ use Rattle.com_text.specs.Counted.{counted_field}
 use Rattle.com_cd.specs.InputArea.{IsInputArea}
 use Rattle.com_text.specs.Text.{IsText}
 use Rattle.com_text.proofs.Numerals.{own_digits}
+use Rattle.com_msg.specs.Rendering.{IsAdvance}
 use Rattle.com_msg.specs.Stamp.{Moment, moment, IsMoment, is_moment}
 use Rattle.com_msg.specs.declared.message.End.{End}
 use Rattle.com_msg.specs.declared.message.RawMessage.{RawMessage}
@@ -29,7 +31,11 @@ use Rattle.com_events.specs.declared.call.EndReason.{EndReason}
 use Rattle.com_events.specs.declared.call.EndReason.TheVariants as finish
 use Rattle.com_events.specs.declared.call.Call.{Call}
 use Rattle.com_events.specs.declared.call.Call.TheVariants.{Start, Receive, Count, Send, SwitchInput, SwitchOutput, Arrive, Held, Stop, Finish}
-use Rattle.com_events.specs.Calls.{IsAdvance, IsPart, IsItem, IsKey, IsSegment, IsTerminalMessage, IsEndReason, IsWellFormed, IsUnitCall}
+use Rattle.com_events.specs.Calls.{IsPart, IsItem, IsKey, IsTerminalMessage, IsEndReason, IsWellFormed, IsUnitCall}
+use Rattle.com_msg.specs.declared.rest.TheConstants.{MAX_SIZE}
+use Rattle.com_msg.specs.declared.sending.TheConstants.{MAX_ITEM_LENGTH, MAX_LINES}
+use Rattle.com_msg.specs.declared.message.TheConstants.{MAX_SEGMENTS, MAX_SEGMENT_LENGTH, MAX_MESSAGE_LENGTH}
+use Rattle.com_events.specs.declared.call.TheConstants.{MAX_KEY_LENGTH}
 use Rattle.com_journal.specs.Words.{kind_word, wait_word, switch_word, input_word, end_word, stop_word, frame_word}
 use Rattle.com_journal.specs.Choices.{kind_of, wait_of, switch_of, input_of, end_of, stop_of, plain_end_of, frame_of}
 use Rattle.com_journal.specs.Lines.{advance_field, part_fields, item_field, end_fields, call_fields}
@@ -55,16 +61,16 @@ made : (Sort : Call → Type 0) (verb bytes : List ℕ) (x : Call) (left : List 
 made Sort verb bytes x left call rest h r =
     subst (λ (p : Call × List ℕ). IsRead Sort verb bytes p.0 p.1) (same_Some (x, left) (call, rest) h) r
 
-sizes : Reads (IsWithin 1 2000) decimal (number_at 1 2000)
-sizes = reads_number 1 2000 (omega arith)
+sizes : Reads (IsWithin 1 MAX_SIZE) decimal (number_at 1 MAX_SIZE)
+sizes = reads_number 1 MAX_SIZE (omega arith)
 
-keys : Reads (IsTextOf 0 10) counted_field (text_at 0 10)
-keys = reads_text 0 10 (omega arith)
+keys : Reads (IsTextOf 0 MAX_KEY_LENGTH) counted_field (text_at 0 MAX_KEY_LENGTH)
+keys = reads_text 0 MAX_KEY_LENGTH (omega arith)
 
-is_key : (key : List ℕ) → IsTextOf 0 10 key → IsKey key
+is_key : (key : List ℕ) → IsTextOf 0 MAX_KEY_LENGTH key → IsKey key
 is_key key h = (h.text, h.high)
 
-of_key : (key : List ℕ) → IsKey key → IsTextOf 0 10 key
+of_key : (key : List ℕ) → IsKey key → IsTextOf 0 MAX_KEY_LENGTH key
 of_key key h = record { text = h.0; low = omega arith; high = h.1 }
 
 -- RECEIVE
@@ -73,7 +79,7 @@ unfolding receive_at
 receive-sound bytes call rest h =
     step (word_at bytes) _ (call, rest) h (λ word is h1.
     step (kind_of word.0) _ (call, rest) h1 (λ kind kind_is h2.
-    step (number_at 1 2000 word.1) _ (call, rest) h2 (λ size size_is h3.
+    step (number_at 1 MAX_SIZE word.1) _ (call, rest) h2 (λ size size_is h3.
     step (word_at size.1) _ (call, rest) h3 (λ waiting waiting_is h4.
     step (wait_of waiting.0) _ (call, rest) h4 (λ no_data no_data_is h5.
     step (in_area_at waiting.1) _ (call, rest) h5 (λ area area_is h6.
@@ -115,17 +121,14 @@ unfolding count_at
 count-complete area rest h end = rw (reads_in_area.complete area rest h end) refl
 
 -- how far a terminal advances
-lines_are : Reads (IsWithin 0 99) decimal (number_at 0 99)
-lines_are = reads_number 0 99 (omega arith)
-
 by-sound : (page : Advance) (lines : ℕ → Advance) (how : List ℕ) (advance : Advance) → advance_by page lines how ≡ Some advance
-    → ((how ≡ codes "P") × (page ≡ advance)) ⊎ ((n : ℕ) × (n ≤ 99) × (how ≡ decimal n) × (lines n ≡ advance))
+    → ((how ≡ codes "P") × (page ≡ advance)) ⊎ ((n : ℕ) × (n ≤ MAX_LINES) × (how ≡ decimal n) × (lines n ≡ advance))
 unfolding advance_by
 by-sound page lines how advance h = elim (cases_Bool (bytes_eq how (codes "P"))) [
   | inl is_page ↦ inl (bytes_eq-true how (codes "P") is_page, same_Some page advance (rw is_page at h))
   | inr is_number ↦
-      let (n, read, same) = option_map-Some lines (number_in 0 99 how) advance (rw is_number at h) in
-      let written = IsNumberIn-number_in 0 99 how n read in
+      let (n, read, same) = option_map-Some lines (number_in 0 MAX_LINES how) advance (rw is_number at h) in
+      let written = IsNumberIn-number_in 0 MAX_LINES how n read in
       inr (n, written.high, written.digits, same)
 ]
 
@@ -134,14 +137,14 @@ first_is_digit : (n byte : ℕ) → n < 2 ^ 64 → ¬ (IsInRange 48 57 byte) →
 first_is_digit n byte fits other e =
     not_in_digits own_digits (decimal n) byte (digits_decimal own_digits n fits) other 0 (decimal_nonempty n fits) e
 
-no_page : (n : ℕ) → n ≤ 99 → bytes_eq (decimal n) (codes "P") ≡ false
+no_page : (n : ℕ) → n ≤ MAX_LINES → bytes_eq (decimal n) (codes "P") ≡ false
 no_page n h =
     false_from_ne_true _ (λ t. first_is_digit n 80 (omega (arith, h)) (λ r. omega (arith, r)) (ap (λ word. get_or word 0 0) (bytes_eq-true (decimal n) (codes "P") t)))
 
-by-lines : (page : Advance) (lines : ℕ → Advance) (n : ℕ) → n ≤ 99 → advance_by page lines (decimal n) ≡ Some (lines n)
+by-lines : (page : Advance) (lines : ℕ → Advance) (n : ℕ) → n ≤ MAX_LINES → advance_by page lines (decimal n) ≡ Some (lines n)
 unfolding advance_by
 by-lines page lines n h =
-    rw (no_page n h, number_in-word 0 99 (decimal n) n (omega arith) record { low = omega arith; high = h; digits = refl }) refl
+    rw (no_page n h, number_in-word 0 MAX_LINES (decimal n) n (omega arith) record { low = omega arith; high = h; digits = refl }) refl
 
 advance-complete : (advance : Advance) → IsAdvance advance → advance_of (advance_field advance) ≡ Some advance
 unfolding advance_of advance_by
@@ -238,10 +241,10 @@ part-complete (part.Egi advance) rest h end =
     rw (word-complete (codes "EGI") (spelled (advance_field advance ∷ []) rest) (no_space (codes "EGI") refl) refl, indicator-complete (codes "EGI") advance (part.Egi advance) rest h end refl) refl
 
 -- what SEND sends
-items : Reads (IsTextOf 1 2000) counted_field (text_at 1 2000)
-items = reads_text 1 2000 (omega arith)
+items : Reads (IsTextOf 1 MAX_ITEM_LENGTH) counted_field (text_at 1 MAX_ITEM_LENGTH)
+items = reads_text 1 MAX_ITEM_LENGTH (omega arith)
 
-no_hyphen : (item rest : List ℕ) → IsTextOf 1 2000 item → behind (codes " -") (32 ∷ (counted_field item ++ rest)) ≡ None
+no_hyphen : (item rest : List ℕ) → IsTextOf 1 MAX_ITEM_LENGTH item → behind (codes " -") (32 ∷ (counted_field item ++ rest)) ≡ None
 no_hyphen item rest h =
     let n = length item in
     let fits : n < 2 ^ 64 = omega (arith, h.high) in
@@ -253,7 +256,7 @@ item_cases : (bytes : List ℕ) (item : Option (List ℕ)) (rest : List ℕ) (hy
     → IfSome item IsItem × (bytes ≡ 32 ∷ (item_field item ++ rest))
 unfolding item_at
 item_cases bytes item rest None e h =
-    let (text, read, parts) = option_map-Some (λ (text : List ℕ × List ℕ). (Some text.0, text.1)) (text_at 1 2000 bytes) (item, rest) (rw e at h) in
+    let (text, read, parts) = option_map-Some (λ (text : List ℕ × List ℕ). (Some text.0, text.1)) (text_at 1 MAX_ITEM_LENGTH bytes) (item, rest) (rw e at h) in
     let a = items.sound bytes text.0 text.1 read in
     let whole : IfSome (Some text.0) IsItem × (bytes ≡ 32 ∷ (item_field (Some text.0) ++ text.1)) = ((a.0.text, a.0.low, a.0.high), a.1) in
     subst (λ (x : Option (List ℕ) × List ℕ). IfSome x.0 IsItem × (bytes ≡ 32 ∷ (item_field x.0 ++ x.1))) parts whole
@@ -266,7 +269,7 @@ item-sound : (bytes : List ℕ) (item : Option (List ℕ)) (rest : List ℕ) →
 unfolding item_at
 item-sound bytes item rest h = item_cases bytes item rest (behind (codes " -") bytes) refl h
 
-no_item : (bytes : List ℕ) → behind (codes " -") bytes ≡ None → item_at bytes ≡ option_map (λ (text : List ℕ × List ℕ). (Some text.0, text.1)) (text_at 1 2000 bytes)
+no_item : (bytes : List ℕ) → behind (codes " -") bytes ≡ None → item_at bytes ≡ option_map (λ (text : List ℕ × List ℕ). (Some text.0, text.1)) (text_at 1 MAX_ITEM_LENGTH bytes)
 unfolding item_at
 no_item bytes h = rw h refl
 
@@ -274,7 +277,7 @@ item-complete : (item : Option (List ℕ)) (rest : List ℕ) → IfSome item IsI
 unfolding item_at
 item-complete None rest h end = refl
 item-complete (Some item) rest h end =
-    let is : IsTextOf 1 2000 item = record { text = h.0; low = h.1; high = h.2 } in
+    let is : IsTextOf 1 MAX_ITEM_LENGTH item = record { text = h.0; low = h.1; high = h.2 } in
     no_item (32 ∷ (counted_field item ++ rest)) (no_hyphen item rest is) ∙ rw (items.complete item rest is end) refl
 
 -- SEND
@@ -309,7 +312,7 @@ output-sound : (on : Bool) (bytes : List ℕ) (call : Call) (rest : List ℕ) �
     → IsUnitCall call × IsWellFormed call × (32 ∷ (switch_word on ++ 32 ∷ (codes "OUTPUT" ++ bytes)) ≡ spelled (call_fields call) rest)
 unfolding switch_output_at
 output-sound on bytes call rest h =
-    step (text_at 0 10 bytes) _ (call, rest) h (λ key key_is h1.
+    step (text_at 0 MAX_KEY_LENGTH bytes) _ (call, rest) h (λ key key_is h1.
     step (out_area_at key.1) _ (call, rest) h1 (λ area area_is h2.
     let a = keys.sound bytes key.0 key.1 key_is in
     let b = reads_out_area.sound key.1 area.0 area.1 area_is in
@@ -322,7 +325,7 @@ input-sound : (on : Bool) (word bytes : List ℕ) (call : Call) (rest : List ℕ
 unfolding input_at switch_input_at
 input-sound on word bytes call rest h =
     step (input_of word) _ (call, rest) h (λ terminal terminal_is h1.
-    step (text_at 0 10 bytes) _ (call, rest) h1 (λ key key_is h2.
+    step (text_at 0 MAX_KEY_LENGTH bytes) _ (call, rest) h1 (λ key key_is h2.
     step (in_area_at key.1) _ (call, rest) h2 (λ area area_is h3.
     let a = keys.sound bytes key.0 key.1 key_is in
     let b = reads_in_area.sound key.1 area.0 area.1 area_is in
@@ -386,13 +389,13 @@ stop-complete reason rest end =
     rw (word-complete (stop_word reason) rest (chooses_stop.plain reason) end, chooses_stop.complete reason) refl
 
 -- ARRIVE
-segment_texts : Reads (IsTextOf 0 2000) counted_field (text_at 0 2000)
-segment_texts = reads_text 0 2000 (omega arith)
+segment_texts : Reads (IsTextOf 0 MAX_SEGMENT_LENGTH) counted_field (text_at 0 MAX_SEGMENT_LENGTH)
+segment_texts = reads_text 0 MAX_SEGMENT_LENGTH (omega arith)
 
 -- so many segments
 record HasSegments (n : ℕ) (bytes : List ℕ) (segments : List (List ℕ)) (rest : List ℕ) : Type 0 where
   many : length segments ≡ n
-  each : AllByRecursion IsSegment segments
+  each : AllByRecursion (IsTextOf 0 MAX_SEGMENT_LENGTH) segments
   whole : bytes ≡ spelled (map counted_field segments) rest
 
 segments-sound : (n : ℕ) (bytes : List ℕ) (segments : List (List ℕ)) (rest : List ℕ) → segments_at n bytes ≡ Some (segments, rest) → HasSegments n bytes segments rest
@@ -400,13 +403,13 @@ unfolding segments_at
 segments-sound zero bytes segments rest h =
     subst (λ (x : List (List ℕ) × List ℕ). HasSegments zero bytes x.0 x.1) (same_Some ([], bytes) (segments, rest) h) record { many = refl; each = tt; whole = refl }
 segments-sound (suc n) bytes segments rest h =
-    step (text_at 0 2000 bytes) _ (segments, rest) h (λ first first_is h1.
+    step (text_at 0 MAX_SEGMENT_LENGTH bytes) _ (segments, rest) h (λ first first_is h1.
     step (segments_at n first.1) _ (segments, rest) h1 (λ others others_are h2.
     let a = segment_texts.sound bytes first.0 first.1 first_is in
     let b = segments-sound n first.1 others.0 others.1 others_are in
     let all : HasSegments (suc n) bytes (first.0 ∷ others.0) others.1 = record {
       many = ap suc b.many;
-      each = ((a.0.text, a.0.high), b.each);
+      each = (a.0, b.each);
       whole = a.1 ∙ ap (λ xs. 32 ∷ (counted_field first.0 ++ xs)) b.whole;
     } in
     subst (λ (x : List (List ℕ) × List ℕ). HasSegments (suc n) bytes x.0 x.1) (same_Some (first.0 ∷ others.0, others.1) (segments, rest) h2) all))
@@ -415,12 +418,12 @@ pub spelled_end : (fields : List (List ℕ)) (rest : List ℕ) → IsEnd rest �
 spelled_end [] rest end = end
 spelled_end (field ∷ fields) rest end = refl
 
-segments-complete : (segments : List (List ℕ)) (rest : List ℕ) → AllByRecursion IsSegment segments → IsEnd rest → segments_at (length segments) (spelled (map counted_field segments) rest) ≡ Some (segments, rest)
+segments-complete : (segments : List (List ℕ)) (rest : List ℕ) → AllByRecursion (IsTextOf 0 MAX_SEGMENT_LENGTH) segments → IsEnd rest → segments_at (length segments) (spelled (map counted_field segments) rest) ≡ Some (segments, rest)
 unfolding segments_at
 segments-complete [] rest h end = refl
 segments-complete (segment ∷ segments) rest h end =
     let behind_it = spelled (map counted_field segments) rest in
-    rw (segment_texts.complete segment behind_it record { text = h.0.0; low = omega arith; high = h.0.1 } (spelled_end (map counted_field segments) rest end), segments-complete segments rest h.1 end) refl
+    rw (segment_texts.complete segment behind_it h.0 (spelled_end (map counted_field segments) rest end), segments-complete segments rest h.1 end) refl
 
 length-moment : (stamp : Moment) → IsMoment stamp → (length stamp.date ≡ 6) × (length stamp.time ≡ 8)
 length-moment stamp h = grind (arith, nat_tests)
@@ -443,14 +446,42 @@ stamp-complete stamp rest h end =
     let lengths = length-moment stamp h in
     rw ((reads_chunk 6).complete stamp.date (spelled (stamp.time ∷ []) rest) lengths.0 refl, (reads_chunk 8).complete stamp.time rest lengths.1 end, h) refl
 
-counts : Reads (IsWithin 1 9999) decimal (number_at 1 9999)
-counts = reads_number 1 9999 (omega arith)
+counts : Reads (IsWithin 1 MAX_SEGMENTS) decimal (number_at 1 MAX_SEGMENTS)
+counts = reads_number 1 MAX_SEGMENTS (omega arith)
 
-are_short-true : (segments : List (List ℕ)) → are_short segments ≡ true → length (concat segments) ≤ 9999
+are_short-true : (segments : List (List ℕ)) → are_short segments ≡ true → length (concat segments) ≤ MAX_MESSAGE_LENGTH
 are_short-true segments h = grind (arith, nat_tests)
 
-short-are_short : (segments : List (List ℕ)) → length (concat segments) ≤ 9999 → are_short segments ≡ true
+short-are_short : (segments : List (List ℕ)) → length (concat segments) ≤ MAX_MESSAGE_LENGTH → are_short segments ≡ true
 short-are_short segments h = grind (arith, nat_tests)
+
+-- the segments of a message within the limits are texts of no more characters than one may have
+texts_of : (segments : List (List ℕ)) → AllByRecursion (IsTextOf 0 MAX_SEGMENT_LENGTH) segments → AllByRecursion IsText segments
+texts_of [] h = tt
+texts_of (segment ∷ segments) h = (h.0.text, texts_of segments h.1)
+
+lengths_of : (segments : List (List ℕ)) → AllByRecursion (IsTextOf 0 MAX_SEGMENT_LENGTH) segments → AllByRecursion (λ segment. length segment ≤ MAX_SEGMENT_LENGTH) segments
+lengths_of [] h = tt
+lengths_of (segment ∷ segments) h = (h.0.high, lengths_of segments h.1)
+
+pub segments_of : (segments : List (List ℕ)) → AllByRecursion IsText segments → All (λ segment. length segment ≤ MAX_SEGMENT_LENGTH) segments → AllByRecursion (IsTextOf 0 MAX_SEGMENT_LENGTH) segments
+segments_of [] h k = tt
+segments_of (segment ∷ segments) h k = (
+  record { text = h.0; low = omega arith; high = All-head (λ s. length s ≤ MAX_SEGMENT_LENGTH) segment segments k },
+  segments_of segments h.1 (All-tail (λ s. length s ≤ MAX_SEGMENT_LENGTH) segment segments k),
+)
+
+message_of : (segments : List (List ℕ)) (end : End) → AllByRecursion (IsTextOf 0 MAX_SEGMENT_LENGTH) segments → 1 ≤ length segments → length segments ≤ MAX_SEGMENTS → length (concat segments) ≤ MAX_MESSAGE_LENGTH
+    → IsTerminalMessage (record { segments = segments; end = end })
+message_of segments end each some few short = record {
+  texts = texts_of segments each;
+  limits = record {
+    not_empty = some;
+    few = few;
+    short = All-from_recursion (λ segment. length segment ≤ MAX_SEGMENT_LENGTH) segments (lengths_of segments each);
+    characters = short;
+  };
+}
 
 arrive-sound : (bytes : List ℕ) (call : Call) (rest : List ℕ) → arrive_at bytes ≡ Some (call, rest) → IsRead IsTerminalCall (codes "ARRIVE") bytes call rest
 unfolding arrive_at
@@ -458,7 +489,7 @@ arrive-sound bytes call rest h =
     step (stamp_at bytes) _ (call, rest) h (λ stamp stamp_is h1.
     step (word_at stamp.1) _ (call, rest) h1 (λ word is h2.
     step (end_of word.0) _ (call, rest) h2 (λ end end_is h3.
-    step (number_at 1 9999 word.1) _ (call, rest) h3 (λ count count_is h4.
+    step (number_at 1 MAX_SEGMENTS word.1) _ (call, rest) h3 (λ count count_is h4.
     step (segments_at count.0 count.1) _ (call, rest) h4 (λ segments segments_are h5.
     let a = stamp-sound bytes stamp.0 stamp.1 stamp_is in
     let b = word-sound stamp.1 word.0 word.1 is in
@@ -469,7 +500,7 @@ arrive-sound bytes call rest h =
     let p = cond_some (are_short segments.0) (Arrive stamp.0 message, segments.1) (call, rest) h5 in
     let all : IsRead IsTerminalCall (codes "ARRIVE") bytes (Arrive stamp.0 message) segments.1 = record {
       sort = λ none. none;
-      ranges = (a.0, record { some = rw e.many d.0.0; few = rw e.many d.0.1; each = e.each; short = are_short-true segments.0 p.0 });
+      ranges = (a.0, message_of segments.0 end e.each (rw e.many d.0.0) (rw e.many d.0.1) (are_short-true segments.0 p.0));
       whole = rw (a.1, b, c, d.1, e.whole, e.many) refl;
     } in
     subst (λ (x : Call × List ℕ). IsRead IsTerminalCall (codes "ARRIVE") bytes x.0 x.1) p.1 all)))))
@@ -486,9 +517,9 @@ arrive-complete stamp segments end rest h m ends =
       stamp-complete stamp at_end h refl,
       word-complete (end_word end) at_count (chooses_end.plain end) refl,
       chooses_end.complete end,
-      counts.complete (length segments) at_segments (m.some, m.few) (spelled_end fields rest ends),
-      segments-complete segments rest m.each ends,
-      short-are_short segments m.short,
+      counts.complete (length segments) at_segments (m.limits.not_empty, m.limits.few) (spelled_end fields rest ends),
+      segments-complete segments rest (segments_of segments m.texts m.limits.short) ends,
+      short-are_short segments m.limits.characters,
     ) refl
 
 -- END

@@ -1,20 +1,14 @@
 -- What has a text can be written.
 use Rattle.std.proofs.Common.{◌≡◌, ℕ, ◌≤◌, None, Some, Option, List, [], ◌∷◌, length, arith}
 use Rattle.std.specs.Prelude.{All}
-use Rattle.std.specs.List.{AllByRecursion}
 use Rattle.std.specs.Option.{IfSome}
-use Rattle.std.proofs.lemmas.List.Elements.{All-from_recursion}
 use Rattle.com_text.specs.Counted.{IsCountable}
 use Rattle.com_events.specs.declared.call.Call.{Call}
 use Rattle.com_events.specs.declared.call.Call.TheVariants.{Start, Receive, Count, Send, SwitchInput, SwitchOutput, Arrive, Held, Stop, Finish}
 use Rattle.com_events.specs.declared.reply.Reply.{Reply}
 use Rattle.com_events.specs.declared.reply.Reply.TheVariants.{Started, Given, NoData, Refused, Waits, AreaIn, AreaOut, Arrived, Done}
-use Rattle.com_events.specs.Calls.{IsItem, IsSegment, IsWellFormed, IsReplyTo}
+use Rattle.com_events.specs.Calls.{IsItem, IsWellFormed, IsReplyTo}
 use Rattle.com_journal.specs.Writing.{AreCountable, IsCountableReply}
-
-each_countable : (segments : List (List ℕ)) → AllByRecursion IsSegment segments → AllByRecursion IsCountable segments
-each_countable [] h = tt
-each_countable (segment ∷ segments) h = (omega (arith, h.0.1), each_countable segments h.1)
 
 item_countable : (item : Option (List ℕ)) → IfSome item IsItem → IfSome item IsCountable
 item_countable None h = tt
@@ -27,7 +21,7 @@ call_countable (Count area) h = tt
 call_countable (Send area sent item) h = item_countable item h.2
 call_countable (SwitchInput on terminal area key) h = omega (arith, h.1.1)
 call_countable (SwitchOutput on area key) h = omega (arith, h.1.1)
-call_countable (Arrive stamp message) h = All-from_recursion IsCountable message.segments (each_countable message.segments h.1.each)
+call_countable (Arrive stamp message) h = λ k d within. omega (arith, h.1.limits.short k d within)
 call_countable Held h = tt
 call_countable (Stop reason) h = tt
 call_countable (Finish reason) h = tt

@@ -26,6 +26,12 @@ same_line entry a b h k = h.spelled ∙ sym k.spelled
 pub unbroken_line : (entry : Entry) (line : List ℕ) → IsLine entry line → IsUnbroken line
 unbroken_line entry line h = unbroken_text line (line_text entry line h)
 
+-- no line with its line feed begins another
+pub no_prefix : (entry other : Entry) (line longer more : List ℕ) → IsLine entry line → IsLine other longer → longer ++ 10 ∷ [] ≡ (line ++ 10 ∷ []) ++ more → (line ≡ longer) × (more ≡ [])
+no_prefix entry other line longer more h k e =
+    let same = same_lines longer line [] more (unbroken_line other longer k) (unbroken_line entry line h) (e ∙ append_assoc line (10 ∷ []) more) in
+    (sym same.0, sym same.1)
+
 unbroken_header : IsUnbroken journal_header
 unbroken_header = refl
 

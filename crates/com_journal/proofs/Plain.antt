@@ -12,6 +12,7 @@ use Rattle.com_text.specs.Text.{IsText, is_text, is_text_byte}
 use Rattle.com_text.proofs.Numerals.{own_digits}
 use Rattle.com_text.proofs.Texts.{IsText-append, IsText-name, IsText-digits}
 use Rattle.std.specs.Str.{all_ascii_digits}
+use Rattle.com_msg.specs.Rendering.{IsAdvance}
 use Rattle.com_msg.specs.Stamp.{Moment, IsMoment, has_form}
 use Rattle.com_msg.specs.declared.sending.Advance.{Advance}
 use Rattle.com_msg.specs.declared.sending.Advance.TheVariants.{Before, After, BeforePage, AfterPage}
@@ -27,12 +28,15 @@ use Rattle.com_events.specs.declared.call.Call.TheVariants.{Start, Receive, Coun
 use Rattle.com_events.specs.declared.reply.Reply.{Reply}
 use Rattle.com_events.specs.declared.reply.Reply.TheVariants.{Started, Given, NoData, Refused, Waits, AreaIn, AreaOut, Arrived, Done}
 use Rattle.com_events.specs.declared.entry.Entry.{Entry}
-use Rattle.com_events.specs.Calls.{IsAdvance, IsPart, IsItem, IsSegment, IsEndReason, IsWellFormed, IsCallOf, AreNames, IsReplyTo, HasText}
+use Rattle.com_events.specs.Calls.{IsPart, IsItem, IsEndReason, IsWellFormed, IsCallOf, AreNames, IsReplyTo, HasText}
+use Rattle.com_msg.specs.declared.message.TheConstants.{MAX_SEGMENT_LENGTH}
 use Rattle.com_journal.specs.Lines.{advance_field, part_fields, item_field, end_fields, call_fields, reply_fields, IsLine}
 use Rattle.com_journal.specs.Writing.{party_sort, party_name}
 use Rattle.com_journal.specs.Scripts.{is_line_feed}
 use Rattle.com_journal.specs.Faults.{IsUnbroken}
 use Rattle.com_journal.proofs.Spelled.{spelled}
+use Rattle.com_journal.proofs.FieldLaws.{IsTextOf}
+use Rattle.com_journal.proofs.CallLaws.{segments_of}
 use Rattle.com_journal.proofs.WordLaws.{chooses_kind, chooses_wait, chooses_switch, chooses_input, chooses_end, chooses_stop, chooses_frame}
 use Rattle.com_journal.proofs.LineLaws.{line_spelled, line-spelled}
 
@@ -95,10 +99,10 @@ reason_texts finish.Long h = refl
 reason_texts finish.Idle h = refl
 reason_texts (finish.Frame fault) h = rw (chooses_frame.text fault.kind, decimal_text fault.at (omega (arith, h))) refl
 
-segment_texts : (segments : List (List ℕ)) → AllByRecursion IsSegment segments → AreTexts (map counted_field segments)
+segment_texts : (segments : List (List ℕ)) → AllByRecursion (IsTextOf 0 MAX_SEGMENT_LENGTH) segments → AreTexts (map counted_field segments)
 segment_texts [] h = refl
 segment_texts (segment ∷ segments) h =
-    rw (counted_text segment (omega (arith, h.0.1)) h.0.0, segment_texts segments h.1) refl
+    rw (counted_text segment (omega (arith, h.0.high)) h.0.text, segment_texts segments h.1) refl
 
 call_texts : (call : Call) → IsWellFormed call → AreTexts (call_fields call)
 call_texts Start h = refl
@@ -116,8 +120,8 @@ call_texts (Arrive stamp message) h =
       IsText-digits stamp.date (date_digits stamp h.0),
       IsText-digits stamp.time (time_digits stamp h.0),
       chooses_end.text message.end,
-      decimal_text (length message.segments) (omega (arith, h.1.few)),
-    ) (segment_texts message.segments h.1.each)
+      decimal_text (length message.segments) (omega (arith, h.1.limits.few)),
+    ) (segment_texts message.segments (segments_of message.segments h.1.texts h.1.limits.short))
 call_texts Held h = refl
 call_texts (Stop reason) h = rw (chooses_stop.text reason) refl
 call_texts (Finish reason) h = reason_texts reason h

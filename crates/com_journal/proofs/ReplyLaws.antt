@@ -15,6 +15,7 @@ use Rattle.com_events.specs.declared.call.Call.TheVariants.{Start, Receive, Coun
 use Rattle.com_events.specs.declared.reply.Reply.{Reply}
 use Rattle.com_events.specs.declared.reply.Reply.TheVariants.{Started, Given, NoData, Refused, Waits, AreaIn, AreaOut, Arrived, Done}
 use Rattle.com_events.specs.Calls.{AreNames, IsReplyTo}
+use Rattle.com_msg.specs.declared.rest.TheConstants.{MAX_SIZE}
 use Rattle.com_journal.specs.Lines.{reply_fields}
 use Rattle.com_journal.specs.Outcomes.{◌>>=◌}
 use Rattle.com_journal.specs.Reading.{word_at, expected, number_at, counted_at, text_at, in_area_at, out_area_at, names_of, names_at, started_at, given_at, without_data, refused_at, received_behind, received_at, input_after, output_after, arrived_at, done_at, reply_at}
@@ -78,12 +79,12 @@ started-complete (Some names) rest h end =
     rw (reads_counted.complete names rest (omega (arith, h.1)) end, some_names names h) refl
 
 -- what RECEIVE is answered
-portions : Reads (IsTextOf 0 2000) counted_field (text_at 0 2000)
-portions = reads_text 0 2000 (omega arith)
+portions : Reads (IsTextOf 0 MAX_SIZE) counted_field (text_at 0 MAX_SIZE)
+portions = reads_text 0 MAX_SIZE (omega arith)
 
 -- whatever the parts of a RECEIVE are
 abbrev IsReceived : Reply → Type 0
-IsReceived (Given after text) = IsInputArea after × IsText text × (length text ≤ 2000)
+IsReceived (Given after text) = IsInputArea after × IsText text × (length text ≤ MAX_SIZE)
 IsReceived (NoData after) = IsInputArea after
 IsReceived (Refused after) = IsInputArea after
 IsReceived Waits = Unit {0}
@@ -93,7 +94,7 @@ given-sound : (bytes : List ℕ) (reply : Reply) (rest : List ℕ) → given_at 
 unfolding given_at
 given-sound bytes reply rest h =
     step (in_area_at bytes) _ (reply, rest) h (λ area area_is h1.
-    step (text_at 0 2000 area.1) _ (reply, rest) h1 (λ text text_is h2.
+    step (text_at 0 MAX_SIZE area.1) _ (reply, rest) h1 (λ text text_is h2.
     let a = reads_in_area.sound bytes area.0 area.1 area_is in
     let b = portions.sound area.1 text.0 text.1 text_is in
     made IsReceived (32 ∷ (codes "TEXT" ++ bytes)) (Given area.0 text.0) text.1 reply rest h2 record { sort = (a.0, b.0.text, b.0.high); whole = rw (a.1, b.1) refl }))

@@ -1,6 +1,7 @@
 -- Worked lines: the text of one call or reply of each form, and a whole journal.
-use Rattle.std.proofs.Common.{◌≡◌, ℕ, ◌≤◌, ◌<◌, true, false, None, Some, List, [], ◌∷◌, ◌++◌, refl, arith}
-use Rattle.std.specs.Prelude.{codes, replicate}
+use Rattle.std.proofs.Common.{◌≡◌, ℕ, ◌≤◌, ◌<◌, true, false, None, Some, List, [], ◌∷◌, ◌++◌, length, refl, arith}
+use Rattle.std.specs.Prelude.{codes, All}
+use Rattle.std.proofs.lemmas.List.Elements.{All-from_recursion}
 use Rattle.std.specs.Fmt.{digits}
 use Rattle.com_msg.specs.Stamp.{moment}
 use Rattle.com_msg.specs.declared.message.End.TheVariants.{Emi, Egi}
@@ -15,6 +16,7 @@ use Rattle.com_events.specs.declared.call.EndReason.TheVariants as finish
 use Rattle.com_events.specs.declared.call.Call.TheVariants.{Start, Receive, Count, Send, SwitchInput, SwitchOutput, Arrive, Held, Stop, Finish}
 use Rattle.com_events.specs.declared.reply.Reply.TheVariants.{Started, Given, NoData, Refused, Waits, AreaIn, AreaOut, Arrived, Done}
 use Rattle.com_events.specs.declared.entry.Entry.{Entry}
+use Rattle.com_msg.specs.declared.message.TheConstants.{MAX_SEGMENT_LENGTH}
 use Rattle.com_journal.specs.Lines.{call_text, reply_text}
 use Rattle.com_journal.specs.Journals.{IsJournal}
 
@@ -140,6 +142,9 @@ begins = record { party = party.Unit (codes "ECHO"); call = Start; reply = Start
 comes : Entry
 comes = record { party = party.Terminal (codes "T1"); call = Arrive (moment (codes "740601") (codes "10203000")) (record { segments = codes "HELLO" ∷ []; end = Emi }); reply = Arrived 1 }
 
+one_segment : All (λ segment. length segment ≤ MAX_SEGMENT_LENGTH) (codes "HELLO" ∷ [])
+one_segment = All-from_recursion (λ segment. length segment ≤ MAX_SEGMENT_LENGTH) (codes "HELLO" ∷ []) (omega arith, tt)
+
 journal : IsJournal (begins ∷ comes ∷ []) (codes "MCS-JOURNAL 1\nU ECHO START = 0:\nT T1 ARRIVE 740601 10203000 EMI 1 5:HELLO = 1\n")
 unfolding begins comes digits
 journal = (
@@ -150,7 +155,7 @@ journal = (
       record {
         has_text = record {
           caller = (refl, λ unit. unit);
-          call = (refl, record { some = omega arith; few = omega arith; each = ((refl, omega arith), tt); short = omega arith });
+          call = (refl, record { texts = (refl, tt); limits = record { not_empty = omega arith; few = omega arith; short = one_segment; characters = omega arith } });
           reply = (omega arith, omega arith);
         };
         spelled = refl;

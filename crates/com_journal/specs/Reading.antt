@@ -22,6 +22,10 @@ use Rattle.com_events.specs.declared.call.Call.TheVariants.{Start, Receive, Coun
 use Rattle.com_events.specs.declared.reply.Reply.{Reply}
 use Rattle.com_events.specs.declared.reply.Reply.TheVariants.{Started, Given, NoData, Refused, Waits, AreaIn, AreaOut, Arrived, Done}
 use Rattle.com_events.specs.declared.entry.Entry.{Entry}
+use Rattle.com_msg.specs.declared.rest.TheConstants.{MAX_SIZE}
+use Rattle.com_msg.specs.declared.sending.TheConstants.{MAX_ITEM_LENGTH, MAX_LINES}
+use Rattle.com_msg.specs.declared.message.TheConstants.{MAX_SEGMENTS, MAX_SEGMENT_LENGTH, MAX_MESSAGE_LENGTH}
+use Rattle.com_events.specs.declared.call.TheConstants.{MAX_KEY_LENGTH}
 use Rattle.com_journal.specs.Choices.{kind_of, wait_of, switch_of, input_of, end_of, stop_of, plain_end_of, frame_of}
 use Rattle.com_journal.specs.Outcomes.{◌>>=◌}
 
@@ -117,7 +121,7 @@ unfoldable pub receive_at : List ℕ → Option (Call × List ℕ)
 receive_at bytes = do
   word ← word_at bytes
   kind ← kind_of word.0
-  size ← number_at 1 2000 word.1
+  size ← number_at 1 MAX_SIZE word.1
   waiting ← word_at size.1
   no_data ← wait_of waiting.0
   area ← in_area_at waiting.1
@@ -131,7 +135,7 @@ count_at bytes = do
 -- how far: a page, or so many lines
 unfoldable pub advance_by : Advance → (ℕ → Advance) → List ℕ → Option Advance
 advance_by page lines how =
-    if bytes_eq how (codes "P") then Some page else option_map lines (number_in 0 99 how)
+    if bytes_eq how (codes "P") then Some page else option_map lines (number_in 0 MAX_LINES how)
 
 unfoldable pub advance_of : List ℕ → Option Advance
 advance_of [] = None
@@ -163,7 +167,7 @@ part_at bytes = do
 unfoldable pub item_at : List ℕ → Option (Option (List ℕ) × List ℕ)
 item_at bytes = elim (behind (codes " -") bytes) [
   | Some rest ↦ Some (None, rest)
-  | None ↦ option_map (λ text. (Some text.0, text.1)) (text_at 1 2000 bytes)
+  | None ↦ option_map (λ text. (Some text.0, text.1)) (text_at 1 MAX_ITEM_LENGTH bytes)
 ]
 
 unfoldable pub send_at : List ℕ → Option (Call × List ℕ)
@@ -175,13 +179,13 @@ send_at bytes = do
 
 unfoldable pub switch_output_at : Bool → List ℕ → Option (Call × List ℕ)
 switch_output_at on bytes = do
-  key ← text_at 0 10 bytes
+  key ← text_at 0 MAX_KEY_LENGTH bytes
   area ← out_area_at key.1
   Some (SwitchOutput on area.0 key.0, area.1)
 
 unfoldable pub switch_input_at : Bool → Bool → List ℕ → Option (Call × List ℕ)
 switch_input_at on terminal bytes = do
-  key ← text_at 0 10 bytes
+  key ← text_at 0 MAX_KEY_LENGTH bytes
   area ← in_area_at key.1
   Some (SwitchInput on terminal area.0 key.0, area.1)
 
@@ -206,7 +210,7 @@ stop_at bytes = do
 unfoldable pub segments_at : ℕ → List ℕ → Option (List (List ℕ) × List ℕ)
 segments_at zero bytes = Some ([], bytes)
 segments_at (suc n) bytes = do
-  first ← text_at 0 2000 bytes
+  first ← text_at 0 MAX_SEGMENT_LENGTH bytes
   others ← segments_at n first.1
   Some (first.0 ∷ others.0, others.1)
 
@@ -220,16 +224,16 @@ stamp_at bytes = do
   stamp ← stamp_of date.0 time.0
   Some (stamp, time.1)
 
--- no more than 9,999 characters in all
+-- no more characters in all than a message may have
 abbrev pub are_short : List (List ℕ) → Bool
-are_short segments = not (nat_lt 9999 (length (concat segments)))
+are_short segments = not (nat_lt MAX_MESSAGE_LENGTH (length (concat segments)))
 
 unfoldable pub arrive_at : List ℕ → Option (Call × List ℕ)
 arrive_at bytes = do
   stamp ← stamp_at bytes
   word ← word_at stamp.1
   end ← end_of word.0
-  count ← number_at 1 9999 word.1
+  count ← number_at 1 MAX_SEGMENTS word.1
   segments ← segments_at count.0 count.1
   if are_short segments.0
       then Some (Arrive stamp.0 (record { segments = segments.0; end = end }), segments.1)
@@ -325,7 +329,7 @@ started_at bytes = do
 unfoldable pub given_at : List ℕ → Option (Reply × List ℕ)
 given_at bytes = do
   area ← in_area_at bytes
-  text ← text_at 0 2000 area.1
+  text ← text_at 0 MAX_SIZE area.1
   Some (Given area.0 text.0, text.1)
 
 unfoldable pub without_data : List ℕ → Option (Reply × List ℕ)

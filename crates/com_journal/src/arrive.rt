@@ -10,18 +10,9 @@ use crate::line::{Line, MAX_NUMBER, Unread};
 use crate::put::{put_decimal, put_field, put_word};
 use crate::words::{end_of, end_word};
 use com_events::{Call, Reply};
-use com_msg::{RawMessage, Stamp, is_longer};
+use com_msg::{MAX_MESSAGE_LENGTH, MAX_SEGMENT_LENGTH, MAX_SEGMENTS, RawMessage, Stamp, is_longer};
 use com_text::{Rows, Text};
 use std::alloc::{AllocError, Global};
-
-/// How many segments a message has at most.
-const MAX_SEGMENTS: u64 = 9_999;
-
-/// How many characters a segment has at most.
-const MAX_SEGMENT: usize = 2_000;
-
-/// How many characters the segments of a message have at most in all.
-const MAX_MESSAGE: usize = 9_999;
 
 /// An ARRIVE, behind its verb.
 #[tactic(auto, unfolding(crate::specs::Reading::arrive_at))]
@@ -30,9 +21,9 @@ pub(crate) fn read_call(alloc: Global, line: &mut Line<'_>) -> Result<Call, Unre
 {
     let stamp = stamp(line)?;
     let end = end_of(line.word()?)?;
-    let count = line.number(1, MAX_SEGMENTS)?;
+    let count = line.number(1, MAX_SEGMENTS as u64)?;
     let segments = segments(alloc, count, line)?;
-    if is_longer(segments.as_slice(), MAX_MESSAGE) {
+    if is_longer(segments.as_slice(), MAX_MESSAGE_LENGTH) {
         return Err(Unread::Refused);
     }
     let message = RawMessage { segments, end };
@@ -73,7 +64,7 @@ fn segments(alloc: Global, count: u64, line: &mut Line<'_>) -> Result<Rows<Text>
 {
     let mut segments = Rows::new(alloc);
     for _ in 0..count {
-        let segment = line.text(alloc, 0, MAX_SEGMENT)?;
+        let segment = line.text(alloc, 0, MAX_SEGMENT_LENGTH)?;
         segments.push(segment).map_err(|_| Unread::Memory)?;
     }
     Ok(segments)

@@ -7,6 +7,7 @@ mod entry;
 mod fault;
 mod finish;
 mod journal;
+mod laws;
 mod line;
 mod put;
 mod receive;
@@ -19,4 +20,9 @@ mod words;
 
 pub use fault::{JournalError, JournalFault, JournalKind};
 pub use journal::{read, write};
+pub use laws::{
+    a_journal_has_no_fault, a_journal_is_of_one_history, a_line_is_of_one_entry,
+    a_text_is_of_one_call, an_entry_has_one_line, each_entry_has_a_line, no_line_begins_another,
+    one_fault_is_told,
+};
 pub use script::{call_line, read_calls};

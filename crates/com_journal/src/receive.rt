@@ -11,15 +11,9 @@ use crate::put::{put_decimal, put_field, put_word};
 use crate::words::{kind_of, kind_word, wait_of, wait_word};
 use com_cd::InArea;
 use com_events::{Call, Reply};
-use com_msg::Kind;
+use com_msg::{Kind, MAX_SIZE};
 use com_text::{Rows, Text};
 use std::alloc::{AllocError, Global};
-
-/// The largest size of a RECEIVE.
-const MAX_SIZE: u64 = 2_000;
-
-/// How many characters a portion has at most.
-const MAX_PORTION: usize = 2_000;
 
 /// A RECEIVE, behind its verb.
 #[tactic(auto, unfolding(crate::specs::Reading::receive_at))]
@@ -27,7 +21,7 @@ pub(crate) fn read_call(line: &mut Line<'_>) -> Result<Call, Unread>
     ensures { Gives (λ call. (call, line.new)) result (receive_at line.old) }
 {
     let kind = kind_of(line.word()?)?;
-    let size = line.number(1, MAX_SIZE)? as u32;
+    let size = line.number(1, u64::from(MAX_SIZE))? as u32;
     let no_data = wait_of(line.word()?)?;
     let area = line.in_area()?;
     Ok(Call::Receive {
@@ -69,7 +63,7 @@ fn given(alloc: Global, line: &mut Line<'_>) -> Result<Reply, Unread>
     ensures { Gives (λ reply. (reply, line.new)) result (given_at line.old) }
 {
     let area = line.in_area()?;
-    let text = line.text(alloc, 0, MAX_PORTION)?;
+    let text = line.text(alloc, 0, MAX_SIZE as usize)?;
     Ok(Reply::Given { area, text })
 }
 

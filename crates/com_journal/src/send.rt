@@ -10,15 +10,9 @@ use crate::line::{Line, Unread, number_in};
 use crate::put::{put_field, put_word};
 use com_cd::OutArea;
 use com_events::Call;
-use com_msg::{Advance, Part};
+use com_msg::{Advance, MAX_ITEM_LENGTH, MAX_LINES, Part};
 use com_text::{Rows, Text, put_number};
 use std::alloc::{AllocError, Global};
-
-/// The largest number of lines of an advance.
-const MAX_LINES: u64 = 99;
-
-/// How many characters an item has at most.
-const MAX_ITEM: usize = 2_000;
 
 /// A SEND, behind its verb.
 #[tactic(auto, unfolding(crate::specs::Reading::send_at))]
@@ -89,7 +83,7 @@ fn before(how: &[u8]) -> Result<Advance, Unread>
     if how == b"P".as_slice() {
         return Ok(Advance::BeforePage);
     }
-    match number_in(0, MAX_LINES, how) {
+    match number_in(0, u64::from(MAX_LINES), how) {
         Some(lines) => Ok(Advance::Before(lines as u8)),
         None => Err(Unread::Refused),
     }
@@ -104,7 +98,7 @@ fn after(how: &[u8]) -> Result<Advance, Unread>
     if how == b"P".as_slice() {
         return Ok(Advance::AfterPage);
     }
-    match number_in(0, MAX_LINES, how) {
+    match number_in(0, u64::from(MAX_LINES), how) {
         Some(lines) => Ok(Advance::After(lines as u8)),
         None => Err(Unread::Refused),
     }
@@ -117,7 +111,7 @@ fn item(alloc: Global, line: &mut Line<'_>) -> Result<Option<Text>, Unread>
     if line.skips_hyphen() {
         return Ok(None);
     }
-    let text = line.text(alloc, 1, MAX_ITEM)?;
+    let text = line.text(alloc, 1, MAX_ITEM_LENGTH)?;
     Ok(Some(text))
 }
 

@@ -10,12 +10,9 @@ use crate::line::{Line, Unread};
 use crate::put::{put_field, put_word};
 use crate::words::{input_of, input_word, switch_word};
 use com_cd::{InArea, OutArea};
-use com_events::Call;
+use com_events::{Call, MAX_KEY_LENGTH};
 use com_text::{Rows, Text};
 use std::alloc::{AllocError, Global};
-
-/// How many characters a key has at most.
-const MAX_KEY: usize = 10;
 
 /// An ENABLE (`on`) or DISABLE, behind its verb.
 #[tactic(auto, unfolding(crate::specs::Reading::switch_at))]
@@ -33,7 +30,7 @@ pub(crate) fn read_call(alloc: Global, on: bool, line: &mut Line<'_>) -> Result<
 fn output(alloc: Global, on: bool, line: &mut Line<'_>) -> Result<Call, Unread>
     ensures { Gives (λ call. (call, line.new)) result (switch_output_at on line.old) }
 {
-    let key = line.text(alloc, 0, MAX_KEY)?;
+    let key = line.text(alloc, 0, MAX_KEY_LENGTH)?;
     let area = line.out_area()?;
     Ok(Call::SwitchOutput { on, area, key })
 }
@@ -44,7 +41,7 @@ fn input(alloc: Global, on: bool, word: &[u8], line: &mut Line<'_>) -> Result<Ca
     ensures { Gives (λ call. (call, line.new)) result (input_at on word.now line.old) }
 {
     let terminal = input_of(word)?;
-    let key = line.text(alloc, 0, MAX_KEY)?;
+    let key = line.text(alloc, 0, MAX_KEY_LENGTH)?;
     let area = line.in_area()?;
     Ok(Call::SwitchInput {
         on,
