@@ -11,7 +11,7 @@ use Rattle.com_net.specs.declared.net.Terminal.{Terminal}
 use Rattle.com_net.specs.declared.net.UnitRow.{UnitRow}
 use Rattle.com_net.specs.Network.{are_distinct, names_of_terminals, names_of_units}
 
-same_either_way : (a b : List ℕ) → bytes_eq a b ≡ bytes_eq b a
+pub same_either_way : (a b : List ℕ) → bytes_eq a b ≡ bytes_eq b a
 same_either_way [] [] = refl
 same_either_way [] (y ∷ b) = refl
 same_either_way (x ∷ a) [] = refl

@@ -1,10 +1,11 @@
 -- The network that a description gives, or its first fault.
-use Rattle.std.specs.Prelude.{◌≡◌, ℕ, Bool, true, nat_lt, List, [], ◌∷◌, length, map, Option, Some, None, is_none, option_map, option_and_then, unwrap_or, codes, if◌then◌else◌}
+use Rattle.std.specs.Prelude.{◌≡◌, ℕ, Bool, nat_lt, List, [], ◌∷◌, length, map, Option, Some, None, is_none, option_map, codes, if◌then◌else◌}
 use Rattle.std.specs.Option.{option_or}
 use Rattle.std.specs.List.{flat_map}
 use Rattle.std.specs.Str.{bytes_eq, is_utf8}
-use Rattle.toml.specs.Data.{Members, as_bool}
+use Rattle.toml.specs.Data.{Members}
 use Rattle.toml.specs.Parse.{parse_document}
+use Rattle.com_msg.specs.declared.framing.Framing.{Framing}
 use Rattle.com_msg.specs.declared.framing.Framing.TheVariants as framing
 use Rattle.com_tree.specs.declared.tree.TreeRow.{TreeRow}
 use Rattle.com_tree.specs.declared.tree.Node.{Node}
@@ -13,14 +14,14 @@ use Rattle.com_net.specs.declared.fault.NetKind.{NetKind}
 use Rattle.com_net.specs.declared.fault.NetKind.TheVariants as kind
 use Rattle.com_net.specs.declared.fault.NetError.{NetError}
 use Rattle.com_net.specs.declared.fault.NetError.TheVariants.{Refused, Memory}
+use Rattle.com_net.specs.declared.fault.TheConstants.{MAX_DESCRIPTION}
 use Rattle.com_net.specs.declared.net.Feed.{Feed}
 use Rattle.com_net.specs.declared.net.Terminal.{Terminal}
 use Rattle.com_net.specs.declared.net.UnitRow.{UnitRow}
 use Rattle.com_net.specs.declared.keys.Section.TheVariants as section
-use Rattle.com_net.specs.declared.keys.Key.{Key}
 use Rattle.com_net.specs.declared.keys.Key.TheVariants as key
 use Rattle.com_net.specs.Parts.{Parts}
-use Rattle.com_net.specs.Values.{value_at, has, string_at, strings_at, tables_at}
+use Rattle.com_net.specs.Values.{flag_at, has, string_at, strings_at, tables_at}
 use Rattle.com_net.specs.Places.{Place, places}
 use Rattle.com_net.specs.KeyFaults.{first_of, missing_key, wrong_kind, unknown_key, bad_name, bad_password}
 use Rattle.com_net.specs.NameFaults.{twice_named, over_limit}
@@ -48,9 +49,10 @@ document_fault document =
     (option_or (told kind.BadPassword (first_of bad_password tables))
     (told kind.OverLimit (over_limit document)))))))))
 
--- a flag, which is true by default
-abbrev pub flag_at : Key → Members → Bool
-flag_at wanted table = unwrap_or (option_and_then as_bool (value_at wanted table)) true
+-- how a terminal's input is framed
+abbrev pub framing_of : Members → Framing
+framing_of table =
+    if bytes_eq (string_at key.Framing table) (codes "lines") then framing.Lines else framing.Marks
 
 -- where a terminal's messages come from, where it has an input
 abbrev pub feed_of : List TreeRow → Members → Option Feed
@@ -58,8 +60,7 @@ feed_of rows table =
     if has key.Input table then
     option_map (λ leaf. record {
       file = string_at key.Input table;
-      framing = if bytes_eq (string_at key.Framing table) (codes "lines") then framing.Lines
-          else framing.Marks;
+      framing = framing_of table;
       leaf = leaf;
     }) (leaf_with rows (strings_at key.Route table))
     else None
@@ -112,7 +113,7 @@ document_of bytes = if is_utf8 bytes then parse_document bytes else None
 
 -- more bytes than a description may have
 abbrev pub is_too_long : List ℕ → Bool
-is_too_long bytes = nat_lt 1048576 (length bytes)
+is_too_long bytes = nat_lt MAX_DESCRIPTION (length bytes)
 
 -- NetFaultOf: the first fault of a description, and its path
 abbrev pub net_fault_of : List ℕ → Option (NetKind × List ℕ)
@@ -128,7 +129,16 @@ abbrev pub net_of : List ℕ → Option Parts
 net_of bytes =
     if is_none (net_fault_of bytes) then option_map parts_of (document_of bytes) else None
 
--- what a refusal tells
+-- a refusal tells this fault; want of memory tells nothing
+abbrev pub IsRefusalBy : Option (NetKind × List ℕ) → NetError → Type 0
+IsRefusalBy found (Refused fault) = found ≡ Some (fault.kind, fault.path)
+IsRefusalBy found (Memory error) = Unit {0}
+
+-- what a refusal tells of a description
 abbrev pub IsRefusalOf : List ℕ → NetError → Type 0
-IsRefusalOf bytes (Refused fault) = net_fault_of bytes ≡ Some (fault.kind, fault.path)
-IsRefusalOf bytes (Memory error) = Unit {0}
+IsRefusalOf bytes error = IsRefusalBy (net_fault_of bytes) error
+
+-- not a refusal
+abbrev pub IsMemory : NetError → Type 0
+IsMemory (Refused fault) = ⊥
+IsMemory (Memory error) = Unit {0}

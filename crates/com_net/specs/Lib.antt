@@ -11,4 +11,5 @@ pub mod Checks
 pub mod TreeFaults
 pub mod NameFaults
 pub mod Description
-pub mod DescriptionRows
+pub mod Sound
+pub mod Lists

@@ -3,6 +3,7 @@ use Rattle.std.specs.Prelude.{ℕ, Bool, true, false, not, ◌&&◌, ◌==◌, n
 use Rattle.std.specs.List.{list_any}
 use Rattle.std.specs.Str.{bytes_eq}
 use Rattle.toml.specs.Data.{Members}
+use Rattle.com_net.specs.declared.net.TheConstants.{MAX_TERMINALS, MAX_UNITS}
 use Rattle.com_net.specs.declared.keys.Section.{Section}
 use Rattle.com_net.specs.declared.keys.Section.TheVariants as section
 use Rattle.com_net.specs.declared.keys.Key.TheVariants as key
@@ -54,6 +55,6 @@ is_over limit number = not (nat_le 1 number && nat_le number limit)
 -- too many terminals or units, or none
 abbrev pub over_limit : Members → Option (List ℕ)
 over_limit document =
-    if is_over 32 (length (tables_at key.Terminals document)) then Some (codes "terminal")
-    else if is_over 16 (length (tables_at key.Units document)) then Some (codes "unit")
+    if is_over MAX_TERMINALS (length (tables_at key.Terminals document)) then Some (codes "terminal")
+    else if is_over MAX_UNITS (length (tables_at key.Units document)) then Some (codes "unit")
     else None

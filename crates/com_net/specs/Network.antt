@@ -1,5 +1,5 @@
 -- What a network holds: the limits, and that names and places are of this network.
-use Rattle.std.specs.Prelude.{◌≡◌, ℕ, ◌<◌, ◌≤◌, ◌-◌, Bool, true, not, ◌&&◌, ◌||◌, ◌==◌, nat_le, List, [], ◌∷◌, length, slice_index, IsTrue, IfSome}
+use Rattle.std.specs.Prelude.{◌≡◌, ℕ, ◌<◌, ◌≤◌, ◌-◌, Bool, true, not, ◌&&◌, ◌||◌, ◌==◌, nat_le, List, [], ◌∷◌, map, length, slice_index, IsTrue, IfSome}
 use Rattle.std.specs.List.{list_all, list_any, AllByRecursion}
 use Rattle.std.specs.Str.{bytes_eq}
 use Rattle.com_text.specs.Text.{is_text}
@@ -9,6 +9,7 @@ use Rattle.com_tree.specs.Written.{IsWritten, leaf_count, top_count, has_name}
 use Rattle.com_net.specs.declared.net.Terminal.{Terminal}
 use Rattle.com_net.specs.declared.net.UnitRow.{UnitRow}
 use Rattle.com_net.specs.declared.net.Net.{Net}
+use Rattle.com_net.specs.declared.net.TheConstants.{MAX_TERMINALS, MAX_UNITS}
 
 -- one to ten characters of a text, the last no space
 abbrev pub is_password : List ℕ → Bool
@@ -39,13 +40,11 @@ are_distinct (name ∷ names) = not (list_any (bytes_eq name) names) && are_dist
 
 -- in the order of the terminals
 abbrev pub names_of_terminals : List Terminal → List (List ℕ)
-names_of_terminals [] = []
-names_of_terminals (terminal ∷ terminals) = terminal.name ∷ names_of_terminals terminals
+names_of_terminals terminals = map (λ terminal. terminal.name) terminals
 
 -- in the order of the units
 abbrev pub names_of_units : List UnitRow → List (List ℕ)
-names_of_units [] = []
-names_of_units (unit ∷ units) = unit.name ∷ names_of_units units
+names_of_units units = map (λ unit. unit.name) units
 
 -- no tree has this name
 abbrev pub is_no_top : List TreeRow → List ℕ → Bool
@@ -66,9 +65,9 @@ pub record IsNet (net : Net) : Type 0 where
   pub terminal_names : IsTrue (list_all is_name (names_of_terminals net.terminals))
   pub unit_names : IsTrue (list_all is_name (names_of_units net.units))
   pub some_terminal : 1 ≤ length net.terminals
-  pub few_terminals : length net.terminals ≤ 32
+  pub few_terminals : length net.terminals ≤ MAX_TERMINALS
   pub some_unit : 1 ≤ length net.units
-  pub few_units : length net.units ≤ 16
+  pub few_units : length net.units ≤ MAX_UNITS
   pub terminals_distinct : IsTrue (are_distinct (names_of_terminals net.terminals))
   pub units_distinct : IsTrue (are_distinct (names_of_units net.units))
   pub apart : IsTrue (list_all (is_no_top net.tree) (names_of_terminals net.terminals))

@@ -1,6 +1,7 @@
 -- The tables of a description, each with the path that leads to it.
 use Rattle.std.specs.Prelude.{ℕ, zero, suc, ◌+◌, ◌-◌, List, [], ◌∷◌, ◌++◌, decimal, codes}
 use Rattle.toml.specs.Data.{Members}
+use Rattle.com_tree.specs.declared.tree.TheConstants.{MAX_DEPTH}
 use Rattle.com_net.specs.declared.keys.Section.{Section}
 use Rattle.com_net.specs.declared.keys.Section.TheVariants as section
 use Rattle.com_net.specs.declared.keys.Key.{Key}
@@ -34,13 +35,13 @@ places_from number section path (table ∷ tables) =
     record { section = section; path = element path number; table = table }
     ∷ places_from (number + 1) section path tables
 
--- queues numbered from this number on, each before the queues below it, down to so many levels; the
--- lowest that is looked at is the fourth
+-- queues numbered from this number on, each before the queues below it, down to so many levels; none
+-- below the lowest level of a tree is looked at
 abbrev pub queues_from : ℕ → ℕ → List ℕ → List Members → List Place
 queues_from zero number path tables = []
 queues_from (suc levels) number path [] = []
 queues_from (suc levels) number path (table ∷ tables) =
-    record { section = section.Queue (4 - levels); path = element path number; table = table }
+    record { section = section.Queue (MAX_DEPTH - levels); path = element path number; table = table }
     ∷ queues_from levels 1 (below (element path number) (codes "sub")) (tables_at key.Children table)
     ++ queues_from (suc levels) (number + 1) path tables
 
@@ -49,5 +50,5 @@ abbrev pub places : Members → List Place
 places document =
     record { section = section.Top; path = []; table = document }
     ∷ places_from 1 section.Terminal (codes "terminal") (tables_at key.Terminals document)
-    ++ queues_from 4 1 (codes "queue") (tables_at key.Queues document)
+    ++ queues_from MAX_DEPTH 1 (codes "queue") (tables_at key.Queues document)
     ++ places_from 1 section.Unit (codes "unit") (tables_at key.Units document)

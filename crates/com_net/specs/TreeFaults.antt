@@ -1,10 +1,11 @@
 -- The queues of a description as trees, and the faults of them and of the paths into them.
-use Rattle.std.specs.Prelude.{ℕ, not, ◌&&◌, ◌==◌, List, [], ◌∷◌, length, Option, Some, None, is_none, option_map, option_and_then, unwrap_or, slice_get, codes, if◌then◌else◌}
+use Rattle.std.specs.Prelude.{ℕ, ◌+◌, Bool, not, ◌&&◌, ◌==◌, List, [], ◌∷◌, length, Option, Some, None, is_none, option_map, option_and_then, unwrap_or, slice_get, codes, if◌then◌else◌}
 use Rattle.std.specs.List.{flat_map}
 use Rattle.std.specs.Str.{bytes_eq}
 use Rattle.toml.specs.Data.{Members}
 use Rattle.com_tree.specs.declared.tree.TreeRow.{TreeRow}
 use Rattle.com_tree.specs.declared.tree.Choose.{Choose}
+use Rattle.com_tree.specs.declared.tree.TheConstants.{MAX_DEPTH}
 use Rattle.com_tree.specs.declared.tree.Choose.TheVariants.{Ordered, Oldest}
 use Rattle.com_tree.specs.declared.tree.Leaf.{Leaf}
 use Rattle.com_tree.specs.declared.build.TreeFault.{TreeFault}
@@ -32,8 +33,8 @@ row_of level table choose =
 -- below the fourth level one row stands for all
 abbrev pub rows_below_fourth : ℕ → Members → List TreeRow
 rows_below_fourth level table =
-    if level == 4 && not (length (tables_at key.Children table) == 0)
-    then row_of 5 table None ∷ [] else []
+    if level == MAX_DEPTH && not (length (tables_at key.Children table) == 0)
+    then row_of (MAX_DEPTH + 1) table None ∷ [] else []
 
 -- the node of a queue, with the row below it
 abbrev pub queue_rows : Section → Members → List TreeRow
@@ -78,14 +79,22 @@ bad_tree places =
 abbrev pub leaf_with : List TreeRow → List (List ℕ) → Option Leaf
 leaf_with rows path = option_and_then (leaf_at rows) (node_with rows path)
 
+-- a terminal's messages would come to no leaf
+abbrev pub leads_to_no_leaf : List TreeRow → Members → Bool
+leads_to_no_leaf rows content =
+    has key.Input content && is_none (leaf_with rows (strings_at key.Route content))
+
+-- no node would start a unit
+abbrev pub leads_to_no_node : List TreeRow → Members → Bool
+leads_to_no_node rows content =
+    has key.Schedule content && is_none (node_with rows (strings_at key.Schedule content))
+
 -- a terminal's route that leads to no leaf, and a unit's schedule that leads to no node
 abbrev pub bad_route : List TreeRow → Place → Option (List ℕ)
 bad_route rows place = elim place.section [
   | section.Terminal ↦
-      if has key.Input place.table && is_none (leaf_with rows (strings_at key.Route place.table))
-      then Some (key_path place key.Route) else None
+      if leads_to_no_leaf rows place.table then Some (key_path place key.Route) else None
   | section.Unit ↦
-      if has key.Schedule place.table && is_none (node_with rows (strings_at key.Schedule place.table))
-      then Some (key_path place key.Schedule) else None
+      if leads_to_no_node rows place.table then Some (key_path place key.Schedule) else None
   | _ ↦ None
 ]

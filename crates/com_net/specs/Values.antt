@@ -1,7 +1,7 @@
 -- The values of a description's tables.
 use Rattle.std.specs.Prelude.{ℕ, pos, Bool, true, false, ◌&&◌, ◌||◌, ◌==◌, nat_le, List, [], ◌∷◌, length, Option, Some, None, is_some, option_and_then, unwrap_or, codes, if◌then◌else◌}
 use Rattle.std.specs.Str.{bytes_eq}
-use Rattle.toml.specs.Data.{Data, string, integer, boolean, array, table, Items, no_items, item, Members, get_member, as_str}
+use Rattle.toml.specs.Data.{Data, string, integer, boolean, array, table, Items, no_items, item, Members, get_member, as_str, as_bool}
 use Rattle.com_net.specs.declared.keys.Key.{Key}
 use Rattle.com_net.specs.declared.keys.Key.TheVariants as key
 use Rattle.com_net.specs.Keys.{key_text}
@@ -14,9 +14,17 @@ value_at wanted content = get_member (key_text wanted) content
 abbrev pub has : Key → Members → Bool
 has wanted content = is_some (value_at wanted content)
 
+-- a string; another value is no text
+abbrev pub text_in : Data → List ℕ
+text_in value = unwrap_or (as_str value) []
+
 -- the string at a key
 abbrev pub string_at : Key → Members → List ℕ
 string_at wanted content = unwrap_or (option_and_then as_str (value_at wanted content)) []
+
+-- the flag at a key, which is true by default
+abbrev pub flag_at : Key → Members → Bool
+flag_at wanted content = unwrap_or (option_and_then as_bool (value_at wanted content)) true
 
 -- each element is a table
 abbrev pub are_tables : Items → Bool

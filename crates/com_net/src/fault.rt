@@ -1,8 +1,13 @@
 //! Why a description gives no network.
+ghost use Rattle.std.specs.Prelude.{◌≡◌};
+
 use com_text::Text;
 use com_tree::TreeFault;
 use std::alloc::AllocError;
 use thiserror::Error;
+
+/// How many bytes a description has at most.
+pub const MAX_DESCRIPTION: usize = 1_048_576;
 
 /// The kinds of faults of a description, in the order in which they are looked for. But a
 /// description that is too long is `OverLimit` before anything else.
@@ -47,4 +52,14 @@ pub enum NetError {
     /// Memory ran out.
     #[error("memory ran out")]
     Memory(AllocError),
+}
+
+impl From<AllocError> for NetError {
+    ghost use Rattle.com_net.specs.declared.fault.NetError.TheVariants.{Memory};
+
+    ghost from_gives = { λ error net_error. net_error ≡ Memory error };
+
+    fn from(error: AllocError) -> NetError {
+        NetError::Memory(error)
+    }
 }

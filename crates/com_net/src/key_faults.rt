@@ -89,24 +89,20 @@ fn has_wrong_kind(key: Key, table: &Table) -> bool
 fn missing_key(section: Section, table: &Table) -> Option<Key>
     ensures { result ≡ find (is_missing (table_view table.now)) (keys_of section) }
 {
-    for key in keys_of(section) {
-        if is_missing(*key, table) {
-            return Some(*key);
-        }
-    }
-    None
+    keys_of(section)
+        .iter()
+        .copied()
+        .find(|key| is_missing(*key, table))
 }
 
 /// The first key whose value is of another kind.
 fn wrong_kind(section: Section, table: &Table) -> Option<Key>
     ensures { result ≡ find (has_wrong_kind (table_view table.now)) (keys_of section) }
 {
-    for key in keys_of(section) {
-        if has_wrong_kind(*key, table) {
-            return Some(*key);
-        }
-    }
-    None
+    keys_of(section)
+        .iter()
+        .copied()
+        .find(|key| has_wrong_kind(*key, table))
 }
 
 /// Whether this is one of the keys, as it is written, and allowed in the table.
@@ -159,8 +155,8 @@ fn fault_at(alloc: Global, check: Check, at: &TableAt<'_>) -> Result<Option<Text
     ensures { IfOk result (λ found. found ≡ fault_at check (seen at.now)) }
 {
     match check {
-        Check::MissingKey => path_of(alloc, at, missing_key(at.section, at.table)),
-        Check::WrongKind => path_of(alloc, at, wrong_kind(at.section, at.table)),
+        Check::MissingKey => path_of_key(alloc, at, missing_key(at.section, at.table)),
+        Check::WrongKind => path_of_key(alloc, at, wrong_kind(at.section, at.table)),
         Check::UnknownKey => unknown_path(alloc, at),
         Check::BadName => bad_name(alloc, at),
         Check::BadPassword => bad_password(alloc, at),
@@ -168,7 +164,11 @@ fn fault_at(alloc: Global, check: Check, at: &TableAt<'_>) -> Result<Option<Text
 }
 
 /// The path of a key, where there is one.
-fn path_of(alloc: Global, at: &TableAt<'_>, key: Option<Key>) -> Result<Option<Text>, AllocError>
+pub fn path_of_key(
+    alloc: Global,
+    at: &TableAt<'_>,
+    key: Option<Key>,
+) -> Result<Option<Text>, AllocError>
     ensures { IfOk result (λ found. found ≡ option_map (key_path (seen at.now)) key) }
 {
     match key {

@@ -2,21 +2,23 @@
 #![tactic(auto)]
 
 mod fault;
+mod gather;
 mod key_faults;
 mod keys;
+mod laws;
 mod name_faults;
 mod net;
 mod paths;
 mod places;
-mod rows;
+mod read;
+mod routes;
 mod texts;
+mod tree_faults;
 mod values;
 
-pub use fault::{NetError, NetFault, NetKind};
-pub use net::{Feed, MAX_TERMINALS, MAX_UNITS, Net, Terminal, UnitRow};
-pub use rows::{
-    bad_part, empty_schedule, empty_sub, five_levels, framing_alone, held_lines, hidden_source,
-    long_password, missing_source, no_document, no_queues, no_table, no_terminals, no_units,
-    one_of_each, route_to_inner, route_to_nowhere, schedule_to_nowhere, terminal_and_queue, trees,
-    two_queues, two_terminals, two_units, unknown_keys, version_two,
+pub use fault::{MAX_DESCRIPTION, NetError, NetFault, NetKind};
+pub use laws::{
+    a_description_gives_a_network_or_a_fault, a_description_is_too_long_by_its_length_alone,
+    a_document_without_a_fault_gives_a_network,
 };
+pub use net::{Feed, MAX_TERMINALS, MAX_UNITS, Net, Terminal, UnitRow};

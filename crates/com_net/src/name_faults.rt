@@ -1,10 +1,11 @@
 //! Names that may not stand twice, and how many tables there may be.
-ghost use Rattle.std.specs.Prelude.{◌≡◌, ◌++◌, [], ◌∷◌, false, length, map, option_map, IfOk, if◌then◌else◌};
+ghost use Rattle.std.specs.Prelude.{◌≡◌, ◌++◌, [], ◌∷◌, false, map, option_map, IfOk, IfSome, if◌then◌else◌};
 ghost use Rattle.std.specs.List.{list_any};
 ghost use Rattle.std.specs.Str.{bytes_eq};
-ghost use Rattle.toml.specs.View.{items_view, table_view};
+ghost use Rattle.com_text.specs.Text.{IsText};
+ghost use Rattle.toml.specs.View.{table_view};
 ghost use Rattle.com_net.specs.declared.keys.Key.TheVariants as key;
-ghost use Rattle.com_net.specs.Values.{string_at, tables_of};
+ghost use Rattle.com_net.specs.Values.{string_at};
 ghost use Rattle.com_net.specs.Seen.{seen};
 ghost use Rattle.com_net.specs.NameFaults.{is_terminal, is_unit, taken, twice_named, is_over, over_limit};
 
@@ -12,11 +13,11 @@ use crate::key_faults::key_path;
 use crate::keys::{Key, Section};
 use crate::net::{MAX_TERMINALS, MAX_UNITS};
 use crate::places::TableAt;
-use crate::values::{string_at, tables_at};
+use crate::values::{count_at, string_at};
 use com_text::Text;
 use indexmap::IndexSet;
 use std::alloc::{AllocError, Global};
-use toml::{Table, Value};
+use toml::Table;
 
 /// The path of the first table with the name of one before it.
 pub fn twice_named(alloc: Global, places: &[TableAt<'_>]) -> Result<Option<Text>, AllocError>
@@ -63,26 +64,21 @@ fn clashes<'a>(
 
 /// Where there are too many terminals or units, or none.
 pub fn over_limit(document: &Table) -> Option<&'static str>
-    ensures { option_map (λ path. path.now) result ≡ over_limit (table_view document.now) }
+    ensures path { option_map (λ path. path.now) result ≡ over_limit (table_view document.now) }
+    ensures text { IfSome result (λ path. IsText path.now) }
 {
-    if is_over(MAX_TERMINALS, tables_at(Key::Terminals, document)) {
+    if is_over(MAX_TERMINALS, count_at(Key::Terminals, document)) {
         Some("terminal")
-    } else if is_over(MAX_UNITS, tables_at(Key::Units, document)) {
+    } else if is_over(MAX_UNITS, count_at(Key::Units, document)) {
         Some("unit")
     } else {
         None
     }
 }
 
-/// Whether the number of tables is not from 1 to a limit.
-fn is_over(limit: usize, values: &[Value]) -> bool
-    ensures { result ≡ is_over limit (length (tables_of (items_view values.now))) }
+/// Whether a number is not from 1 to a limit.
+fn is_over(limit: usize, number: usize) -> bool
+    ensures { result ≡ is_over limit number }
 {
-    let mut number = 0;
-    for value in values {
-        if value.is_table() {
-            number += 1;
-        }
-    }
     number < 1 || limit < number
 }

@@ -107,8 +107,8 @@ impl Net {
         ensures flags { IfOk result (λ net. net.leaf_on ≡ leaf_on) }
         ensures units { IfOk result (λ net. net.units ≡ units) }
     {
-        let terminal_names = set_of_terminals(alloc, terminals.as_slice())?;
-        let unit_names = set_of_units(alloc, units.as_slice())?;
+        let terminal_names = set_of(alloc, &names_of_terminals(alloc, terminals.as_slice())?)?;
+        let unit_names = set_of(alloc, &names_of_units(alloc, units.as_slice())?)?;
         Ok(Net {
             terminals,
             tree,
@@ -118,6 +118,19 @@ impl Net {
             terminal_names,
             unit_names,
         })
+    }
+
+    /// A network with the same parts. An error says that memory ran out.
+    pub fn copy(&self) -> Result<Net, AllocError>
+        ensures { IfOk result (λ copy. copy ≡ self.now) }
+    {
+        let alloc = self.terminals.allocator();
+        let terminals = copies_of(alloc, self.terminals.as_slice())?;
+        let tree = self.tree.copy()?;
+        let queue_passwords = copies_of(alloc, self.queue_passwords.as_slice())?;
+        let leaf_on = Rows::of_vec(Vec::from_slice(alloc, self.leaf_on.as_slice())?);
+        let units = copies_of(alloc, self.units.as_slice())?;
+        Net::of(alloc, terminals, tree, queue_passwords, leaf_on, units)
     }
 
     /// The number of the terminal with a name: None exactly where there is none.
@@ -139,7 +152,7 @@ impl Net {
 
 /// The place of a name in a set of a few names.
 fn number_of(names: &IndexSet<Name>, name: &Name) -> Option<u32>
-    requires few { length names.now.keys ≤ 32 }
+    requires few { length names.now.keys ≤ MAX_TERMINALS }
     ensures number { result ≡ position (λ other. bytes_eq other name.now) names.now.keys }
     ensures within { IfSome result (λ number. number < length names.now.keys) }
 {
@@ -150,25 +163,95 @@ fn number_of(names: &IndexSet<Name>, name: &Name) -> Option<u32>
 }
 
 /// The names of terminals, in their order.
-fn set_of_terminals(alloc: Global, terminals: &[Terminal]) -> Result<IndexSet<Name>, AllocError>
-    requires distinct { IsTrue (are_distinct (names_of_terminals terminals.now)) }
-    ensures names { IfOk result (λ set. set.keys ≡ names_of_terminals terminals.now) }
+fn names_of_terminals(alloc: Global, terminals: &[Terminal]) -> Result<Vec<Name>, AllocError>
+    ensures { IfOk result (λ names. names.items ≡ names_of_terminals terminals.now) }
 {
-    let mut names = IndexSet::new(alloc);
-    for terminal in terminals {
-        names.insert(terminal.name)?;
-    }
-    Ok(names)
+    terminals
+        .iter()
+        .map(|terminal| terminal.name)
+        .collect(alloc)
 }
 
 /// The names of units, in their order.
-fn set_of_units(alloc: Global, units: &[UnitRow]) -> Result<IndexSet<Name>, AllocError>
-    requires distinct { IsTrue (are_distinct (names_of_units units.now)) }
-    ensures names { IfOk result (λ set. set.keys ≡ names_of_units units.now) }
+fn names_of_units(alloc: Global, units: &[UnitRow]) -> Result<Vec<Name>, AllocError>
+    ensures { IfOk result (λ names. names.items ≡ names_of_units units.now) }
 {
-    let mut names = IndexSet::new(alloc);
-    for unit in units {
-        names.insert(unit.name)?;
+    units.iter().map(|unit| unit.name).collect(alloc)
+}
+
+/// The set of distinct names, in their order.
+fn set_of(alloc: Global, names: &[Name]) -> Result<IndexSet<Name>, AllocError>
+    requires { IsTrue (are_distinct names.now) }
+    ensures { IfOk result (λ set. set.keys ≡ names.now) }
+{
+    let mut set = IndexSet::new(alloc);
+    for name in names {
+        set.insert(*name)?;
     }
-    Ok(names)
+    Ok(set)
+}
+
+/// What is copied where there is memory.
+trait TryCopy: Drop {
+    /// An equal value. An error says that memory ran out.
+    fn try_copy(&self) -> Result<Self, AllocError>
+        ensures { IfOk result (λ copy. copy ≡ self.now) };
+}
+
+impl TryCopy for Text {
+    fn try_copy(&self) -> Result<Text, AllocError> {
+        self.copy()
+    }
+}
+
+impl TryCopy for Feed {
+    fn try_copy(&self) -> Result<Feed, AllocError> {
+        Ok(Feed {
+            file: self.file.copy()?,
+            framing: self.framing,
+            leaf: self.leaf,
+        })
+    }
+}
+
+impl TryCopy for Terminal {
+    fn try_copy(&self) -> Result<Terminal, AllocError> {
+        Ok(Terminal {
+            name: self.name,
+            password: self.password.copy()?,
+            feed: copy_of_feed(&self.feed)?,
+            input_on: self.input_on,
+            output_on: self.output_on,
+        })
+    }
+}
+
+impl TryCopy for UnitRow {
+    fn try_copy(&self) -> Result<UnitRow, AllocError> {
+        Ok(UnitRow {
+            name: self.name,
+            source: self.source.copy()?,
+            schedule: self.schedule,
+        })
+    }
+}
+
+fn copy_of_feed(feed: &Option<Feed>) -> Result<Option<Feed>, AllocError>
+    ensures { IfOk result (λ copy. copy ≡ feed.now) }
+{
+    match feed {
+        Some(feed) => Ok(Some(feed.try_copy()?)),
+        None => Ok(None),
+    }
+}
+
+/// Equal items, in their order.
+fn copies_of<T: TryCopy>(alloc: Global, items: &[T]) -> Result<Rows<T>, AllocError>
+    ensures { IfOk result (λ copies. copies ≡ items.now) }
+{
+    let mut copies = Vec::new(alloc);
+    for item in items {
+        copies.push(item.try_copy()?)?;
+    }
+    Ok(Rows::of_vec(copies))
 }

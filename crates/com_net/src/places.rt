@@ -1,5 +1,5 @@
 //! The tables of a description, in the order of the walk.
-ghost use Rattle.std.specs.Prelude.{◌≡◌, ◌++◌, ◌∷◌, ◌-◌, ◌≤◌, map, codes, IfOk, OnOk};
+ghost use Rattle.std.specs.Prelude.{◌≡◌, ◌++◌, ◌∷◌, ◌-◌, ◌<◌, ◌≤◌, map, codes, IfOk, OnOk};
 ghost use Rattle.com_text.specs.Text.{IsText};
 ghost use Rattle.toml.specs.View.{items_view, table_view};
 ghost use Rattle.com_net.specs.declared.keys.Section.TheVariants as section;
@@ -12,6 +12,7 @@ use crate::keys::{Key, Section};
 use crate::paths::{below, element};
 use crate::values::tables_at;
 use com_text::Text;
+use com_tree::MAX_DEPTH;
 use std::alloc::{AllocError, Global};
 use toml::{Table, Value};
 
@@ -37,7 +38,7 @@ pub fn places<'a>(alloc: Global, document: &'a Table) -> Result<Vec<TableAt<'a>>
     push_tables(alloc, Section::Terminal, b"terminal", terminals, &mut found)?;
     push_queues(
         alloc,
-        4,
+        MAX_DEPTH,
         b"queue",
         tables_at(Key::Queues, document),
         &mut found,
@@ -85,7 +86,7 @@ fn push_queues<'a>(
     found: &mut Vec<TableAt<'a>>,
 ) -> Result<(), AllocError>
     requires path { IsText path.now }
-    requires levels { levels ≤ 4 }
+    requires levels { levels ≤ MAX_DEPTH }
     ensures queues { OnOk result (map seen found.new.items ≡ map seen found.old.items
         ++ queues_from levels 1 path.now (tables_of (items_view values.now))) }
 {
@@ -117,15 +118,15 @@ fn push_queue<'a>(
     table: &'a Table,
     found: &mut Vec<TableAt<'a>>,
 ) -> Result<(), AllocError>
-    requires levels { levels ≤ 3 }
+    requires levels { levels < MAX_DEPTH }
     ensures queues { OnOk result (map seen found.new.items ≡ map seen found.old.items
-        ++ record { section = section.Queue (4 - levels); path = path; table = table_view table.now }
+        ++ record { section = section.Queue (MAX_DEPTH - levels); path = path; table = table_view table.now }
         ∷ queues_from levels 1 (below path (codes "sub"))
         (tables_at key.Children (table_view table.now))) }
 {
     let inner = below(alloc, path.as_bytes(), b"sub")?;
     found.push(TableAt {
-        section: Section::Queue(4 - levels),
+        section: Section::Queue(MAX_DEPTH - levels),
         path,
         table,
     })?;

@@ -1,10 +1,17 @@
 //! The values of a description's tables.
-ghost use Rattle.std.specs.Prelude.{◌≡◌, option_map, option_and_then, is_some, codes};
-ghost use Rattle.toml.specs.Data.{as_str};
+ghost use Rattle.std.specs.Prelude.{◌≡◌, true, length, option_map, option_and_then, is_some, codes, IfOk};
+ghost use Rattle.std.specs.List.{list_all};
+ghost use Rattle.toml.specs.Data.{as_str, as_table};
 ghost use Rattle.toml.specs.View.{view, items_view, table_view};
-ghost use Rattle.com_net.specs.Values.{value_at, has, string_at, are_tables, tables_of, tables_in, tables_at, are_strings, strings_of, strings_in, strings_at, is_table_array, are_steps, is_path, is_word, is_string, is_boolean, is_one, is_of_kind};
+ghost use Rattle.com_text.specs.Name.{is_name};
+ghost use Rattle.com_text.specs.Text.{IsText};
+ghost use Rattle.com_net.specs.Sound.{is_name_path};
+ghost use Rattle.com_net.specs.Seen.{texts_in};
+ghost use Rattle.com_net.specs.Values.{value_at, has, text_in, string_at, flag_at, are_tables, tables_of, tables_in, tables_at, are_strings, strings_of, strings_in, strings_at, is_table_array, are_steps, is_path, is_word, is_string, is_boolean, is_one, is_of_kind};
 
 use crate::keys::{Key, key_text};
+use com_text::{Name, NamePath, Text};
+use std::alloc::{AllocError, Global};
 use toml::{Table, Value};
 
 /// The value at a key.
@@ -21,22 +28,76 @@ pub fn has(key: Key, table: &Table) -> bool
     value_at(key, table).is_some()
 }
 
+/// A string; another value is no text.
+fn text_in(value: &Value) -> &str
+    ensures { result.now ≡ text_in (view value.now) }
+{
+    match value.as_str() {
+        Some(text) => text,
+        None => "",
+    }
+}
+
 /// The string at a key; another value is no text.
 pub fn string_at<'a>(key: Key, table: &'a Table) -> &'a str
     ensures { result.now ≡ string_at key (table_view table.now) }
 {
     match value_at(key, table) {
-        Some(value) => match value.as_str() {
-            Some(text) => text,
-            None => "",
-        },
+        Some(value) => text_in(value),
         None => "",
     }
 }
 
+/// The name at a key.
+pub fn name_at(key: Key, table: &Table) -> Name
+    requires { is_name (string_at key (table_view table.now)) ≡ true }
+    ensures { result ≡ string_at key (table_view table.now) }
+{
+    Name::new(string_at(key, table).as_bytes()).unwrap()
+}
+
+/// The text at a key.
+pub fn text_at(alloc: Global, key: Key, table: &Table) -> Result<Text, AllocError>
+    requires { IsText (string_at key (table_view table.now)) }
+    ensures { IfOk result (λ text. text ≡ string_at key (table_view table.now)) }
+{
+    Ok(Text::of_vec(Vec::from_slice(alloc, string_at(key, table).as_bytes())?))
+}
+
+/// The path that one to four strings name.
+pub fn path_of(names: &[Value]) -> NamePath
+    requires { is_name_path (texts_in names.now) ≡ true }
+    ensures { result ≡ texts_in names.now }
+{
+    let mut path = NamePath::new(name_in(&names[0]));
+    for name in &names[1..] {
+        path = path.then(name_in(name)).unwrap();
+    }
+    path
+}
+
+/// A string that is a name.
+fn name_in(value: &Value) -> Name
+    requires { is_name (text_in (view value.now)) ≡ true }
+    ensures { result ≡ text_in (view value.now) }
+{
+    Name::new(text_in(value).as_bytes()).unwrap()
+}
+
+/// The flag at a key, which is true by default.
+pub fn flag_at(key: Key, table: &Table) -> bool
+    ensures { result ≡ flag_at key (table_view table.now) }
+{
+    match value_at(key, table) {
+        Some(value) => value.as_bool().unwrap_or(true),
+        None => true,
+    }
+}
+
 /// The elements of an array of tables; another value has none.
-pub fn tables_in(value: &Value) -> &[Value]
-    ensures { tables_of (items_view result.now) ≡ tables_in (view value.now) }
+fn tables_in(value: &Value) -> &[Value]
+    ensures tables { tables_of (items_view result.now) ≡ tables_in (view value.now) }
+    ensures all { are_tables (items_view result.now) ≡ true }
 {
     match value.as_array() {
         Some(values) => if are_tables(values.as_slice()) {
@@ -50,7 +111,8 @@ pub fn tables_in(value: &Value) -> &[Value]
 
 /// The elements of the array of tables at a key.
 pub fn tables_at<'a>(key: Key, table: &'a Table) -> &'a [Value]
-    ensures { tables_of (items_view result.now) ≡ tables_at key (table_view table.now) }
+    ensures tables { tables_of (items_view result.now) ≡ tables_at key (table_view table.now) }
+    ensures all { are_tables (items_view result.now) ≡ true }
 {
     match value_at(key, table) {
         Some(value) => tables_in(value),
@@ -58,9 +120,17 @@ pub fn tables_at<'a>(key: Key, table: &'a Table) -> &'a [Value]
     }
 }
 
+/// How many tables the array of tables at a key has.
+pub fn count_at(key: Key, table: &Table) -> usize
+    ensures { result ≡ length (tables_at key (table_view table.now)) }
+{
+    tables_at(key, table).len()
+}
+
 /// The elements of an array of strings; another value has none.
 pub fn strings_in(value: &Value) -> &[Value]
-    ensures { strings_of (items_view result.now) ≡ strings_in (view value.now) }
+    ensures strings { strings_of (items_view result.now) ≡ strings_in (view value.now) }
+    ensures all { are_strings (items_view result.now) ≡ true }
 {
     match value.as_array() {
         Some(values) => if are_strings(values.as_slice()) {
@@ -73,13 +143,21 @@ pub fn strings_in(value: &Value) -> &[Value]
 }
 
 /// The elements of the array of strings at a key.
-pub fn strings_at<'a>(key: Key, table: &'a Table) -> &'a [Value]
-    ensures { strings_of (items_view result.now) ≡ strings_at key (table_view table.now) }
+fn strings_at<'a>(key: Key, table: &'a Table) -> &'a [Value]
+    ensures strings { strings_of (items_view result.now) ≡ strings_at key (table_view table.now) }
+    ensures all { are_strings (items_view result.now) ≡ true }
 {
     match value_at(key, table) {
         Some(value) => strings_in(value),
         None => &[],
     }
+}
+
+/// The names of the path at a key.
+pub fn names_at<'a>(key: Key, table: &'a Table) -> &'a [Value]
+    ensures { texts_in result.now ≡ strings_at key (table_view table.now) }
+{
+    strings_at(key, table)
 }
 
 /// Whether a value is one that a key may have.
@@ -100,23 +178,25 @@ pub fn is_of_kind(key: Key, value: &Value) -> bool
 fn are_tables(values: &[Value]) -> bool
     ensures { result ≡ are_tables (items_view values.now) }
 {
-    for value in values {
-        if !value.is_table() {
-            return false;
-        }
-    }
-    true
+    each_is_table(values)
+}
+
+fn each_is_table(values: &[Value]) -> bool
+    ensures { result ≡ list_all (λ value. is_some (as_table (view value))) values.now }
+{
+    values.iter().all(|value| value.is_table())
 }
 
 fn are_strings(values: &[Value]) -> bool
     ensures { result ≡ are_strings (items_view values.now) }
 {
-    for value in values {
-        if !value.is_str() {
-            return false;
-        }
-    }
-    true
+    each_is_string(values)
+}
+
+fn each_is_string(values: &[Value]) -> bool
+    ensures { result ≡ list_all (λ value. is_some (as_str (view value))) values.now }
+{
+    values.iter().all(|value| value.is_str())
 }
 
 fn is_one(value: &Value) -> bool

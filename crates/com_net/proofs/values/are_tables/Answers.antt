@@ -1,22 +1,6 @@
-use Rattle.std.proofs.Common.{◌≡◌, ◌∙◌, true, false, is_some, sym, arith}
-use Rattle.toml.specs.View.{view}
-use Rattle.toml.specs.Data.{as_table}
-use Rattle.com_net.proofs.Arrays.{tables_left, past_items}
+use Rattle.std.proofs.Common.{◌∙◌, sym}
+use Rattle.com_net.proofs.Arrays.{all_tables}
 use Rattle.com_net.proofs.values.are_tables.Goals as goal
 
-pub loop-value-preserved : goal.loop-value-preserved
-loop-value-preserved c =
-    let value = c.value-item.result in
-    let left = tables_left c.args.values.now c.loop-value.value-index value (omega arith) c.value-item.is in
-    let some : is_some (as_table (view value)) ≡ true = sym c.is_table.ensures ∙ c.if-not-is_table.false in
-    sym (rw some at left) ∙ c.loop-value.invariant
-
-pub returns-then-not-is_table : goal.returns-then-not-is_table
-returns-then-not-is_table c =
-    let value = c.value-item.result in
-    let left = tables_left c.args.values.now c.loop-value.value-index value (omega arith) c.value-item.is in
-    let none : is_some (as_table (view value)) ≡ false = sym c.is_table.ensures ∙ c.if-not-is_table.true in
-    sym (rw none at left) ∙ c.loop-value.invariant
-
 pub returns : goal.returns
-returns c = rw (past_items c.args.values.now c.loop-value.value-index (omega arith)) at c.loop-value.invariant
+returns c = c.each_is_table.ensures ∙ sym (all_tables c.args.values.now)
