@@ -4,3 +4,5 @@ pub mod Finding
 pub mod Changing
 pub mod Serving
 pub mod Keeping
+pub mod Lawful
+pub mod Refused

@@ -4,3 +4,4 @@ pub mod Found
 pub mod Sending
 pub mod Switching
 pub mod Kept
+pub mod Laws

@@ -2,6 +2,8 @@
 use Rattle.std.specs.Prelude.{◌≡◌, ℕ, Bool, List, [], length, map, replicate, Option, option_map, option_and_then, slice_get, slice_set}
 use Rattle.std.specs.List.{All}
 use Rattle.com_msg.specs.Begun.{Begun, nothing_begun}
+use Rattle.com_msg.specs.Rendering.{IsAdvance, IsRenderable}
+use Rattle.com_msg.specs.declared.sending.OutSegment.{OutSegment}
 use Rattle.com_msg.specs.declared.sending.OutMessage.{OutMessage}
 use Rattle.com_send.specs.declared.destination.Destination.{Destination}
 
@@ -27,10 +29,22 @@ pub record Outputs : Type 0 where
   pub units : ℕ
   pub outgoing : Outgoing
 
--- what is outgoing is so for each destination and each unit
+-- every advance of these segments is one that a terminal may make
+abbrev pub AreAdvances : List OutSegment → Type 0
+AreAdvances segments = All (λ segment. IsAdvance segment.advance) segments
+
+-- what goes to a destination is what a terminal can be sent
+pub record IsRenderableState (state : DestinationState) : Type 0 where
+  pub begun : All (λ begun. AreAdvances begun.segments) state.begun
+  pub queued : All IsRenderable state.queued
+  pub sent : All IsRenderable state.sent
+
+-- What holds of what is outgoing: it is so for each destination and each unit, and terminals can be
+-- sent it.
 pub record AreFor (destinations : List Destination) (units : ℕ) (outgoing : Outgoing) : Type 0 where
   pub many : length outgoing ≡ length destinations
   pub begun : All (λ state. length state.begun ≡ units) outgoing
+  pub renderable : All IsRenderableState outgoing
 
 -- a destination at the beginning, for so many units
 abbrev pub opening_state : ℕ → Destination → DestinationState

@@ -5,6 +5,7 @@ use Rattle.std.specs.Str.{all_ascii_digits}
 use Rattle.com_text.specs.Digits.{number}
 use Rattle.com_msg.specs.Begun.{Begun, nothing_begun, with_text, ended, finished}
 use Rattle.com_msg.specs.declared.message.End.TheVariants.{Emi as with_emi, Egi as with_egi}
+use Rattle.com_msg.specs.declared.sending.Advance.{Advance}
 use Rattle.com_msg.specs.declared.sending.OutMessage.{OutMessage}
 use Rattle.com_msg.specs.declared.sending.Part.{Part}
 use Rattle.com_msg.specs.declared.sending.Part.TheVariants.{Portion, Esi, Emi, Egi}
@@ -41,6 +42,13 @@ serve_begun unit part text state (Some begun) = serve_part unit part (with_text 
 -- one destination of a SEND
 abbrev pub serve : ℕ → Part → List ℕ → DestinationState → DestinationState
 serve unit part text state = serve_begun unit part text state (slice_get state.begun unit)
+
+-- how the segment is written that a part ends
+abbrev pub advance_of : Part → Option Advance
+advance_of Portion = None
+advance_of (Esi advance) = Some advance
+advance_of (Emi advance) = Some advance
+advance_of (Egi advance) = Some advance
 
 -- the leftmost TEXT LENGTH characters of the item, and none without an item; undefined where TEXT
 -- LENGTH is no number, or more than the item has

@@ -1,9 +1,10 @@
 //! Where units send to: SEND, ENABLE OUTPUT and DISABLE OUTPUT.
-ghost use Rattle.std.specs.Prelude.{◌≡◌, ◌<◌, length, Some, IfOk, OnOk, OnErr};
+ghost use Rattle.std.specs.Prelude.{◌≡◌, ◌<◌, length, Some, IfSome, IfOk, OnOk, OnErr, All};
 ghost use Rattle.std.specs.List.{list_all};
 ghost use Rattle.std.specs.Option.{option_copied};
+ghost use Rattle.com_msg.specs.Rendering.{IsAdvance, IsRenderable};
 ghost use Rattle.com_send.specs.Outgoing.{opening, drop_unit, transmitted_to};
-ghost use Rattle.com_send.specs.Sending.{send, is_nothing};
+ghost use Rattle.com_send.specs.Sending.{send, advance_of, is_nothing};
 ghost use Rattle.com_send.specs.Switching.{switch_output, is_key_of_each, switch_status};
 
 use crate::areas::{find_destinations, has_unknown, is_among, sent_text, write_keys, write_status};
@@ -63,6 +64,20 @@ impl Outs {
         })
     }
 
+    /// The destinations, in their order.
+    pub fn destinations(&self) -> &[Destination]
+        ensures { result.now ≡ self.now.destinations }
+    {
+        self.destinations.as_slice()
+    }
+
+    /// How many units there are.
+    pub fn units(&self) -> u32
+        ensures { result ≡ self.now.units }
+    {
+        self.units
+    }
+
     /// SEND of a unit: the leftmost TEXT LENGTH characters of an item, or none without an item, are
     /// added to what the unit has begun at each known destination of the area, and the part ends the
     /// segment and the message. The area tells what became of it. Without memory nothing changes.
@@ -74,6 +89,7 @@ impl Outs {
         from: Option<&Text>,
     ) -> Result<(), AllocError>
         requires unit { unit < self.old.units }
+        requires advance { IfSome (advance_of part) IsAdvance }
         ensures sent { OnOk result ((area.new, self.new.outgoing)
             ≡ send self.old.destinations self.old.outgoing unit area.old part
             (option_copied from.entry)) }
@@ -138,7 +154,8 @@ impl Outs {
     /// The messages that were transmitted to a destination, in order.
     pub fn transmitted(&self, destination: u32) -> &[OutMessage]
         requires { destination < length self.now.destinations }
-        ensures { transmitted_to self.now.outgoing destination ≡ Some result.now }
+        ensures transmitted { transmitted_to self.now.outgoing destination ≡ Some result.now }
+        ensures renderable { All IsRenderable result.now }
     {
         self.outputs[destination as usize].sent.as_slice()
     }

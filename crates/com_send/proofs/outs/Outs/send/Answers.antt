@@ -4,7 +4,7 @@ use Rattle.com_send.specs.Outgoing.{Outputs}
 use Rattle.com_send.specs.Found.{at_each, find_destinations, with_keys}
 use Rattle.com_send.specs.Sending.{serve, sent_text, is_nothing, send, send_status}
 use Rattle.com_send.specs.Kept.{states_of}
-use Rattle.com_send.proofs.Keeping.{are_for_each, serve_keeps, units_within, whole, same_answer, send_served}
+use Rattle.com_send.proofs.Keeping.{are_for_served, units_within, whole, same_answer, send_served}
 use Rattle.com_send.proofs.outs.Outs.send.Goals as goal
 
 pub send_to-requires-clause-units : goal.send_to-requires-clause-units
@@ -19,7 +19,7 @@ invariant_of-self-2 c =
     let new = c.send_to.new.outputs in
     let text = c.in-Some-sent_text.text.now in
     rw (whole new (drop (length new) inside.outputs.items) inside.outputs.len (c.send_to.auto.outputs ∙ c.deref_mut.ensures.len), c.in_ok-status.ensures.ok, c.deref_mut.ensures.value)
-    (are_for_each c.deref.result.now (serve c.args.unit c.args.part text) (serve_keeps c.args.unit c.args.part text) inside.destinations inside.units (states_of inside.outputs.items) c.self.invariant)
+    (are_for_served c.deref.result.now c.args.unit c.args.part text c.requires.advance inside.destinations inside.units (states_of inside.outputs.items) c.self.invariant)
 
 pub returns-clause-sent : goal.returns-clause-sent
 returns-clause-sent c =

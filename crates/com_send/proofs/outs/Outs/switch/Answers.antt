@@ -3,7 +3,7 @@ use Rattle.com_send.specs.Outgoing.{Outputs}
 use Rattle.com_send.specs.Found.{at_each, find_destinations, with_keys}
 use Rattle.com_send.specs.Switching.{switch, switch_output, switch_status, is_key_of_each}
 use Rattle.com_send.specs.Kept.{states_of}
-use Rattle.com_send.proofs.Keeping.{are_for_each, switch_keeps, whole, same_answer, switch_served}
+use Rattle.com_send.proofs.Keeping.{are_for_switched, whole, same_answer, switch_served}
 use Rattle.com_send.proofs.outs.Outs.switch.Goals as goal
 
 pub invariant_of-self-2 : goal.invariant_of-self-2
@@ -11,7 +11,7 @@ invariant_of-self-2 c =
     let inside = c.self.inside in
     let new = c.switch.new.outputs in
     rw (whole new (drop (length new) inside.outputs.items) inside.outputs.len (c.switch.auto.outputs ∙ c.deref_mut.ensures.len), c.in_ok-switch.ensures.ok, c.deref_mut.ensures.value)
-    (are_for_each c.deref-2.result.now (switch c.args.on) (switch_keeps c.args.on) inside.destinations inside.units (states_of inside.outputs.items) c.self.invariant)
+    (are_for_switched c.deref-2.result.now c.args.on inside.destinations inside.units (states_of inside.outputs.items) c.self.invariant)
 
 pub returns-clause-switched : goal.returns-clause-switched
 returns-clause-switched c =
