@@ -1,9 +1,9 @@
 -- What a pass shows, and what the calls on a turn say of it.
 use Rattle.std.specs.Prelude.{◌≡◌, ℕ, ◌<◌, Bool, false, List, [], length, Option, None, Some, slice_get, All}
 use Rattle.atomic_table.specs.Seated.{TableId}
-use Rattle.com_turn.specs.declared.view.Mark.{Mark}
+use Rattle.com_turn.specs.declared.view.Toggle.{Toggle}
 use Rattle.com_turn.specs.Histories.{IsPrefixOf, items_of, HasSeen}
-use Rattle.com_turn.specs.Marks.{party_of}
+use Rattle.com_turn.specs.Toggles.{party_of}
 
 pub record PassState (I B : Type 0) : Type 0 where
   -- which turn it is a pass of
@@ -15,12 +15,12 @@ pub record PassState (I B : Type 0) : Type 0 where
   pub opened : List I
   -- the log as far as it has seen it, and who became active or inactive until then
   pub seen : List I
-  pub marks : List Mark
+  pub toggles : List Toggle
   pub at_turn : Bool
   pub active : Bool
   -- how often it took the turn
   pub turns : ℕ
-  -- what `active` answered last in its last turn
+  -- what `active` answered last in its last turn, where it neither entered nor left since
   pub found : Option ℕ
 
 -- the pass's own entries: the items of the log past the opening that have its number
@@ -36,7 +36,7 @@ new_pass turn parties base log number = record {
   base = base;
   opened = log;
   seen = log;
-  marks = [];
+  toggles = [];
   at_turn = false;
   active = false;
   turns = 0;
@@ -67,10 +67,10 @@ pub record IsKept {V I B : Type 0} (log_of : V → List I) (base_of : V → B) (
   pub seen : IsPrefixOf pass.seen (log_of value)
   pub own : items_of owner pass.number (length pass.opened) (log_of value) ≡ mine owner pass
 
--- the pass has seen a front of these marks, in which all marks of its party stand
-abbrev pub HasMarks : {I B : Type 0} → List Mark → PassState I B → Type 0
-HasMarks marks pass = HasSeen party_of pass.number 0 marks pass.marks
+-- the pass has seen a front of these toggles, in which all toggles of its party stand
+abbrev pub HasToggles : {I B : Type 0} → List Toggle → PassState I B → Type 0
+HasToggles toggles pass = HasSeen party_of pass.number 0 toggles pass.toggles
 
--- all that became active or inactive stands in one list, of which each pass has seen a front with all marks of its party
-abbrev pub AgreeOnMarks : {I B : Type 0} → List (PassState I B) → Type 0
-AgreeOnMarks passes = (marks : List Mark) × All (HasMarks marks) passes
+-- all that became active or inactive stands in one list, of which each pass has seen a front with all toggles of its party
+abbrev pub AgreeOnToggles : {I B : Type 0} → List (PassState I B) → Type 0
+AgreeOnToggles passes = (toggles : List Toggle) × All (HasToggles toggles) passes
