@@ -5,9 +5,12 @@ use Rattle.com_turn.specs.declared.view.Toggle.{Toggle}
 use Rattle.com_turn.specs.Histories.{IsPrefixOf, items_of, HasSeen}
 use Rattle.com_turn.specs.Toggles.{party_of}
 
+-- which turn it is
+abbrev pub TurnId : Type 0
+TurnId = TableId
+
 pub record PassState (I B : Type 0) : Type 0 where
-  -- which turn it is a pass of
-  pub turn : TableId
+  pub turn : TurnId
   pub number : ℕ
   pub parties : ℕ
   -- the base and the log with which the turn was opened
@@ -28,7 +31,7 @@ abbrev pub mine : {I B : Type 0} → (I → ℕ) → PassState I B → List I
 mine owner pass = items_of owner pass.number (length pass.opened) pass.seen
 
 -- the pass of a party when the turn is opened
-abbrev pub new_pass : {I B : Type 0} → TableId → ℕ → B → List I → ℕ → PassState I B
+abbrev pub new_pass : {I B : Type 0} → TurnId → ℕ → B → List I → ℕ → PassState I B
 new_pass turn parties base log number = record {
   turn = turn;
   number = number;
@@ -44,12 +47,12 @@ new_pass turn parties base log number = record {
 }
 
 -- One pass for each party, in the order of their numbers.
-pub record AreNew {I B : Type 0} (turn : TableId) (parties : ℕ) (base : B) (log : List I) (passes : List (PassState I B)) : Type 0 where
+pub record AreNew {I B : Type 0} (turn : TurnId) (parties : ℕ) (base : B) (log : List I) (passes : List (PassState I B)) : Type 0 where
   pub many : length passes ≡ parties
   pub each : (i : ℕ) → i < parties → slice_get passes i ≡ Some (new_pass turn parties base log i)
 
 -- The pass of a party with which the turn may be closed.
-pub record IsReady {I B : Type 0} (turn : TableId) (parties number : ℕ) (pass : PassState I B) : Type 0 where
+pub record IsReady {I B : Type 0} (turn : TurnId) (parties number : ℕ) (pass : PassState I B) : Type 0 where
   pub turn_is : pass.turn ≡ turn
   pub number_is : pass.number ≡ number
   pub parties_are : pass.parties ≡ parties
@@ -57,7 +60,7 @@ pub record IsReady {I B : Type 0} (turn : TableId) (parties number : ℕ) (pass 
   pub inactive : pass.active ≡ false
 
 -- all passes of the turn, in the order of their numbers
-abbrev pub AreReady : {I B : Type 0} → TableId → List (PassState I B) → Type 0
+abbrev pub AreReady : {I B : Type 0} → TurnId → List (PassState I B) → Type 0
 AreReady {I} {B} turn passes = (i : ℕ) (pass : PassState I B) → slice_get passes i ≡ Some pass → IsReady turn (length passes) i pass
 
 -- What is known of a pass and of the value at the end: the base is the pass's, the log begins with what the pass has

@@ -1,7 +1,6 @@
 -- Passes after turns, and lists of passes.
 use Rattle.std.proofs.Common.{◌≡◌, ℕ, ◌+◌, ◌<◌, false, List, [], ◌∷◌, ◌++◌, length, get_or, slice_get, All, Some, sym, refl, ap, ◌∙◌, subst, arith, add_assoc, add-zero, length-append}
-use Rattle.atomic_table.specs.Seated.{TableId}
-use Rattle.com_turn.specs.Passes.{PassState, new_pass, AreNew, IsReady, AreReady}
+use Rattle.com_turn.specs.Passes.{TurnId, PassState, new_pass, AreNew, IsReady, AreReady}
 use Rattle.com_turn.proofs.Lists.{Some-injective, index_of_get, get_within, slice_get-within, slice_get-front, slice_get-last}
 use Rattle.turn_tests.specs.Diaries.{IsFree, IsAfter}
 
@@ -13,7 +12,7 @@ module _ {I B : Type 0} where
   after_more n a b c e f =
       f ∙ ((λ k. record (e k) { seen = c.seen; toggles = c.toggles; turns = (e k).turns + 1; found = c.found }) ∙ (λ k. record a { seen = c.seen; toggles = c.toggles; turns = add_assoc a.turns n 1 k; found = c.found }))
 
-  pub after_ready : (turn : TableId) (parties number n : ℕ) (a b : PassState I B) → IsAfter n a b → IsReady turn parties number a → IsReady turn parties number b
+  pub after_ready : (turn : TurnId) (parties number n : ℕ) (a b : PassState I B) → IsAfter n a b → IsReady turn parties number a → IsReady turn parties number b
   after_ready turn parties number n a b e r = record {
     turn_is = ap (λ (z : PassState I B). z.turn) e ∙ r.turn_is;
     number_is = ap (λ (z : PassState I B). z.number) e ∙ r.number_is;
@@ -23,7 +22,7 @@ module _ {I B : Type 0} where
   }
 
   -- new passes are ready, and free
-  pub new_ready : (turn : TableId) (parties : ℕ) (base : B) (log : List I) (passes : List (PassState I B)) → AreNew turn parties base log passes → AreReady turn passes
+  pub new_ready : (turn : TurnId) (parties : ℕ) (base : B) (log : List I) (passes : List (PassState I B)) → AreNew turn parties base log passes → AreReady turn passes
   new_ready turn parties base log passes new i pass e =
       let is : pass ≡ new_pass turn parties base log i = Some-injective pass (new_pass turn parties base log i) (sym e ∙ new.each i (subst (λ n. i < n) new.many (get_within passes i pass e))) in record {
         turn_is = ap (λ (z : PassState I B). z.turn) is;
@@ -33,7 +32,7 @@ module _ {I B : Type 0} where
         inactive = ap (λ (z : PassState I B). z.active) is;
       }
 
-  pub ready_free : (turn : TableId) (passes : List (PassState I B)) → AreReady turn passes → All (IsFree turn) passes
+  pub ready_free : (turn : TurnId) (passes : List (PassState I B)) → AreReady turn passes → All (IsFree turn) passes
   ready_free turn passes ready k d lt =
       let here = slice_get-within passes k lt in let pass : PassState I B = here.0 in let r = ready k pass here.1 in
       subst (IsFree turn) (sym (index_of_get passes k pass d here.1)) (r.turn_is, r.idle, r.inactive)
