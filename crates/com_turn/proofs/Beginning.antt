@@ -14,10 +14,10 @@ use Rattle.com_turn.specs.declared.view.Stage.TheVariants.{Idle}
 use Rattle.com_turn.specs.declared.view.View.{View}
 use Rattle.com_turn.specs.declared.view.Opening.{Opening}
 use Rattle.com_turn.specs.Histories.{IsPrefixOf}
-use Rattle.com_turn.specs.Marks.{party_of, is_active}
+use Rattle.com_turn.specs.Toggles.{party_of, is_active}
 use Rattle.com_turn.specs.Passes.{PassState, new_pass, AreNew}
 use Rattle.com_turn.specs.Views.{first_view, view_of_next, carried, is_at_turn, shown, IsSettled}
-use Rattle.com_turn.specs.Rule.{History, Line, IsLive, IsBelow, IsCount, IsRuled}
+use Rattle.com_turn.specs.Rule.{History, Tickets, IsLive, IsBelow, IsCount, IsRuled}
 use Rattle.com_turn.proofs.Lists.{None-Some, no_item, slice_get-front, slice_get-last}
 use Rattle.com_turn.proofs.Fronts.{prefix_refl, seen_all}
 
@@ -25,7 +25,7 @@ alone : {A : Type 0} (a b : A) (j : ℕ) → get_elem? (a ∷ []) j ≡ some b �
 alone a b zero e = (refl, some-injective a b e)
 alone a b (suc j) e = absurd (some-ne-none b (sym e))
 
--- nobody is active where there is no mark
+-- nobody is active where there is no toggle
 none_active : (n from : ℕ) → count_by (λ party. is_active party []) (range_with_len from n) ≡ 0
 none_active zero from = refl
 none_active (suc n) from = let a = sum_by-cons (λ (party : ℕ). cond (is_active party []) 1 0) from (range_with_len (from + 1) n) in let b = none_active n (from + 1) in omega (arith, a, b)
@@ -34,10 +34,10 @@ module _ {V I B : Type 0} (log_of : V → List I) (base_of : V → B) (owner : I
   pub opens : (value : V) (parties : ℕ) → 0 < parties → parties < 2 ^ 32 → IsRuled log_of base_of owner (opening (0 ∷ 0 ∷ 0 ∷ 0 ∷ []) (Some value ∷ []) (first_view (log_of value) (base_of value) parties))
   opens value parties some_party few =
       let v : View I B = first_view (log_of value) (base_of value) parties in let log : List I = log_of value in
-      let history : History I B = record { log = log; marks = []; opened = log; base = base_of value; parties = parties } in
-      let line : Line = record { next = 0; serving = 0; holder = None } in
+      let history : History I B = record { log = log; toggles = []; opened = log; base = base_of value; parties = parties } in
+      let tickets : Tickets = record { next = 0; serving = 0; holder = None } in
       let nothing = λ (party : ℕ). ap (filter (λ (x : I). eqb (owner x) party)) (drop-length log) in
-      let first : IsLive owner history line 0 v = record {
+      let first : IsLive owner history tickets 0 v = record {
         known = record {
           parties = refl;
           base = refl;
@@ -45,21 +45,21 @@ module _ {V I B : Type 0} (log_of : V → List I) (base_of : V → B) (owner : I
           number = some_party;
           past_opening = prefix_refl log log refl;
           items = seen_all owner 0 (length log) log log refl;
-          marks = seen_all party_of 0 0 [] [] refl;
+          toggles = seen_all party_of 0 0 [] [] refl;
         };
         olds = λ old h. absurd (no_item old h);
         stage = tt;
         active = refl;
       } in record {
         history = history;
-        line = line;
+        tickets = tickets;
         few = few;
         room = omega (arith, some_party);
-        words = record { four = refl; ticket = refl; serving = refl; count = omega arith; active = refl; marked = sym (none_active parties 0) };
-        tickets = refl;
+        words = record { four = refl; ticket = refl; serving = refl; count = omega arith; active = refl; toggled = sym (none_active parties 0) };
+        drawn = refl;
         home = (value, refl, refl, refl);
         holder = λ seat e. absurd (None-Some seat e);
-        live = λ j u e live. subst (λ (z : ℕ × View I B). IsLive owner history line z.0 z.1) (λ k. (sym (alone v u j e).0 k, (alone v u j e).1 k)) first;
+        live = λ j u e live. subst (λ (z : ℕ × View I B). IsLive owner history tickets z.0 z.1) (λ k. (sym (alone v u j e).0 k, (alone v u j e).1 k)) first;
         counts = λ j u e live. subst (λ (z : View I B). IsCount owner history (v ∷ []) z.count) (alone v u j e).1 (
           refl,
           (λ i x f lx. subst (λ (z : View I B). IsBelow 1 z) (alone v x i f).1 (omega arith, λ old h. absurd (no_item old h))),
@@ -101,7 +101,7 @@ module _ {V I B : Type 0} (base_of : V → B) (opened : Opening V) (turn : Table
     base = base_of opened.value.value;
     opened = (me k).0.known.opened;
     seen = (me k).0.known.seen;
-    marks = (me k).0.known.marks;
+    toggles = (me k).0.known.toggles;
     at_turn = is_at_turn (me k).0.stage;
     active = (me k).0.active;
     turns = (me k).0.turns;
@@ -116,7 +116,7 @@ module _ {V I B : Type 0} (base_of : V → B) (opened : Opening V) (turn : Table
     base = base_of opened.value.value;
     opened = (me k).0.known.opened;
     seen = (me k).0.known.seen;
-    marks = (me k).0.known.marks;
+    toggles = (me k).0.known.toggles;
     at_turn = is_at_turn (me k).0.stage;
     active = (me k).0.active;
     turns = (me k).0.turns;

@@ -7,15 +7,15 @@ use native.Mathlib.Decide.{ℕ_discrete}
 use lib.ListN.{get_elem?}
 use Rattle.atomic_table.specs.Table.{State}
 use Rattle.atomic_table.proofs.Lists.{at_set, set_here, set_else}
-use Rattle.com_turn.specs.declared.view.Mark.{Mark}
+use Rattle.com_turn.specs.declared.view.Toggle.{Toggle}
 use Rattle.com_turn.specs.declared.view.Known.{Known}
 use Rattle.com_turn.specs.declared.view.Stage.{Stage}
 use Rattle.com_turn.specs.declared.view.Stage.TheVariants.{Idle, Waiting, Holding}
 use Rattle.com_turn.specs.declared.view.View.{View}
 use Rattle.com_turn.specs.Histories.{items_of}
-use Rattle.com_turn.specs.Marks.{party_of}
+use Rattle.com_turn.specs.Toggles.{party_of}
 use Rattle.com_turn.specs.Views.{HasTicket, ticket_of, active_of}
-use Rattle.com_turn.specs.Rule.{History, Line, AreWords, IsHome, IsStage, IsLive, IsBelow, IsCount, AreApart, EachLive, IsHolder, IsRuled}
+use Rattle.com_turn.specs.Rule.{History, Tickets, AreWords, IsHome, IsStage, IsLive, IsBelow, IsCount, AreApart, EachLive, IsHolder, IsRuled}
 use Rattle.com_turn.proofs.Lists.{within, sum_by-replaced}
 
 -- what the step leaves of the view
@@ -74,54 +74,54 @@ module _ {I B : Type 0} where
   active_same views id v w at same = let h = sum_by-replaced active_of views id v w at in omega (arith, h, same)
 
   -- the stage of another seat, when the seat with the ticket that is served makes a step
-  pub stage_else : (history after : History I B) (line next : Line) (seat : ℕ) (view : View I B) (stage : Stage) → next.next ≡ line.next → next.serving ≤ line.serving + 1
-      → IsStage history line seat view stage → (HasTicket stage line.serving → ⊥) → IsStage after next seat view stage
-  stage_else history after line next seat view Idle same up h other = tt
-  stage_else history after line next seat view (Waiting ticket) same up h other =
-      let low = h.0 in let lt = h.1 in let ne : ticket ≢ line.serving = other in (omega (arith, low, ne, up), omega (arith, lt, same), h.2)
-  stage_else history after line next seat view (Holding ticket) same up h other = absurd (other h.0)
+  pub stage_else : (history after : History I B) (tickets next : Tickets) (seat : ℕ) (view : View I B) (stage : Stage) → next.next ≡ tickets.next → next.serving ≤ tickets.serving + 1
+      → IsStage history tickets seat view stage → (HasTicket stage tickets.serving → ⊥) → IsStage after next seat view stage
+  stage_else history after tickets next seat view Idle same up h other = tt
+  stage_else history after tickets next seat view (Waiting ticket) same up h other =
+      let low = h.0 in let lt = h.1 in let ne : ticket ≢ tickets.serving = other in (omega (arith, low, ne, up), omega (arith, lt, same), h.2)
+  stage_else history after tickets next seat view (Holding ticket) same up h other = absurd (other h.0)
 
 module _ {V I B : Type 0} (log_of : V → List I) (base_of : V → B) (owner : I → ℕ) where
-  -- The seat goes from the view v to w, and the log and the marks grow by what is its own.
-  pub record IsChange (s : State (Option V) (View I B)) (r : IsRuled log_of base_of owner s) (id : ℕ) (v w : View I B) (log : List I) (marks : List Mark) (line : Line) (words : List ℕ) (homes : List (maybe.Option (Option V))) : Type 0 where
+  -- The seat goes from the view v to w, and the log and the toggles grow by what is its own.
+  pub record IsChange (s : State (Option V) (View I B)) (r : IsRuled log_of base_of owner s) (id : ℕ) (v w : View I B) (log : List I) (toggles : List Toggle) (tickets : Tickets) (words : List ℕ) (homes : List (maybe.Option (Option V))) : Type 0 where
     pub at : get_elem? s.views id ≡ some v
     pub live : v.spent ≡ false
     pub stays : Stays v w
     pub items_stay : (party : ℕ) → party ≢ v.known.number → items_of owner party (length r.history.opened) log ≡ items_of owner party (length r.history.opened) r.history.log
-    pub marks_stay : (party : ℕ) → party ≢ v.known.number → items_of party_of party 0 marks ≡ items_of party_of party 0 r.history.marks
-    pub words_are : AreWords (record r.history { log = log; marks = marks }) line (set s.views id w) words
-    pub tickets : line.next + ticket_of v ≡ line.serving + sum_by ticket_of s.views + ticket_of w
-    pub home : IsHome log_of base_of log r.history.base line.holder homes
-    pub holder : (seat : ℕ) → line.holder ≡ Some seat → IsHolder (set s.views id w) seat
-    pub here : IsLive owner (record r.history { log = log; marks = marks }) line id w
+    pub toggles_stay : (party : ℕ) → party ≢ v.known.number → items_of party_of party 0 toggles ≡ items_of party_of party 0 r.history.toggles
+    pub words_are : AreWords (record r.history { log = log; toggles = toggles }) tickets (set s.views id w) words
+    pub drawn : tickets.next + ticket_of v ≡ tickets.serving + sum_by ticket_of s.views + ticket_of w
+    pub home : IsHome log_of base_of log r.history.base tickets.holder homes
+    pub holder : (seat : ℕ) → tickets.holder ≡ Some seat → IsHolder (set s.views id w) seat
+    pub here : IsLive owner (record r.history { log = log; toggles = toggles }) tickets id w
     pub others : (j : ℕ) (u : View I B) → j ≢ id → get_elem? s.views j ≡ some u → u.spent ≡ false
-        → IsLive owner (record r.history { log = log; marks = marks }) line j u × ((ticket : ℕ) → HasTicket w.stage ticket → HasTicket u.stage ticket → ⊥)
+        → IsLive owner (record r.history { log = log; toggles = toggles }) tickets j u × ((ticket : ℕ) → HasTicket w.stage ticket → HasTicket u.stage ticket → ⊥)
 
-  module _ (s : State (Option V) (View I B)) (r : IsRuled log_of base_of owner s) (id : ℕ) (v w : View I B) (log : List I) (marks : List Mark) (line : Line) (words : List ℕ) (homes : List (maybe.Option (Option V)))
-      (c : IsChange s r id v w log marks line words homes) where
-    count_stays : (count : Option ℕ) → IsCount owner r.history s.views count → IsCount owner (record r.history { log = log; marks = marks }) (set s.views id w) count
+  module _ (s : State (Option V) (View I B)) (r : IsRuled log_of base_of owner s) (id : ℕ) (v w : View I B) (log : List I) (toggles : List Toggle) (tickets : Tickets) (words : List ℕ) (homes : List (maybe.Option (Option V)))
+      (c : IsChange s r id v w log toggles tickets words homes) where
+    count_stays : (count : Option ℕ) → IsCount owner r.history s.views count → IsCount owner (record r.history { log = log; toggles = toggles }) (set s.views id w) count
     count_stays None h = tt
     count_stays (Some count) h = let own = h.1 id v c.at c.live in (
       length-set s.views id w ∙ h.0,
       each_set s.views id w (λ _ view. IsBelow count view)
           (subst (λ z. z < count) (sym c.stays.number) own.0, λ o t. own.1 o (subst (λ (z : List (Known I B)). Contains z o) c.stays.olds t)) (λ j u ne e lu. h.1 j u e lu),
       λ party far. c.items_stay party (λ e. let lt = own.0 in omega (arith, far, lt, e)) ∙ h.2 party far,
-      λ party far. c.marks_stay party (λ e. let lt = own.0 in omega (arith, far, lt, e)) ∙ h.3 party far,
+      λ party far. c.toggles_stay party (λ e. let lt = own.0 in omega (arith, far, lt, e)) ∙ h.3 party far,
     )
 
     pub changed : IsRuled log_of base_of owner record { words = words; homes = homes; views = set s.views id w }
     changed = record {
-      history = record r.history { log = log; marks = marks };
-      line = line;
+      history = record r.history { log = log; toggles = toggles };
+      tickets = tickets;
       few = r.few;
       room = subst (λ n. n ≤ r.history.parties) (sym (length-set s.views id w)) r.room;
       words = c.words_are;
-      tickets = let h = sum_by-replaced ticket_of s.views id v w c.at in let t = c.tickets in omega (arith, t, h);
+      drawn = let h = sum_by-replaced ticket_of s.views id v w c.at in let t = c.drawn in omega (arith, t, h);
       home = c.home;
       holder = c.holder;
-      live = each_set s.views id w (λ j u. IsLive owner (record r.history { log = log; marks = marks }) line j u) c.here (λ j u ne e lu. (c.others j u ne e lu).0);
-      counts = each_set s.views id w (λ _ u. IsCount owner (record r.history { log = log; marks = marks }) (set s.views id w) u.count)
-          (subst (IsCount owner (record r.history { log = log; marks = marks }) (set s.views id w)) (sym c.stays.count) (count_stays v.count (r.counts id v c.at c.live)))
+      live = each_set s.views id w (λ j u. IsLive owner (record r.history { log = log; toggles = toggles }) tickets j u) c.here (λ j u ne e lu. (c.others j u ne e lu).0);
+      counts = each_set s.views id w (λ _ u. IsCount owner (record r.history { log = log; toggles = toggles }) (set s.views id w) u.count)
+          (subst (IsCount owner (record r.history { log = log; toggles = toggles }) (set s.views id w)) (sym c.stays.count) (count_stays v.count (r.counts id v c.at c.live)))
           (λ j u ne e lu. count_stays u.count (r.counts j u e lu));
       apart = each_set s.views id w (λ i x. EachLive (λ j u. i ≢ j → AreApart x u) (set s.views id w))
           (each_set s.views id w (λ j u. id ≢ j → AreApart w u) (λ (not : id ≢ id). absurd (not refl))

@@ -12,7 +12,7 @@ use Rattle.com_turn.proofs.Joining.{idle-Holding}
 module _ {V I B : Type 0} (log_of : V → List I) (base_of : V → B) (owner : I → ℕ) where
   -- no other live view is left, so no seat is at its turn
   nobody : (s : State (Option V) (View I B)) (r : IsRuled log_of base_of owner s) (id : ℕ) (v : View I B) → get_elem? s.views id ≡ some v → v.spent ≡ false → v.stage ≡ Idle → HasEveryNumber v
-      → (holder : Option ℕ) → r.line.holder ≡ holder → r.line.holder ≡ None
+      → (holder : Option ℕ) → r.tickets.holder ≡ holder → r.tickets.holder ≡ None
   nobody s r id v at live idle all None e = e
   nobody s r id v at live idle all (Some j) e =
       let h = r.holder j e in let u : View I B = h.0 in let ticket : ℕ = h.1 in
@@ -27,7 +27,7 @@ module _ {V I B : Type 0} (log_of : V → List I) (base_of : V → B) (owner : I
       → (value : V) × (get_elem? slots 0 ≡ some (Some value)) × IsClosed log_of base_of owner v value
   closes words slots id v live idle all f =
       let s : State (Option V) (View I B) = f.0 in let r = f.1.0 in let at = f.1.1 in
-      let home = subst (λ z. IsHome log_of base_of r.history.log r.history.base z s.homes) (nobody s r id v at live idle all r.line.holder refl) r.home in
+      let home = subst (λ z. IsHome log_of base_of r.history.log r.history.base z s.homes) (nobody s r id v at live idle all r.tickets.holder refl) r.home in
       let l = r.live id v at live in (
         home.0,
         f.4 0 (Some home.0) (ap (λ z. get_elem? z 0) home.1),

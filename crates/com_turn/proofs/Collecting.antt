@@ -8,7 +8,7 @@ use Rattle.com_turn.specs.declared.view.Known.{Known}
 use Rattle.com_turn.specs.declared.view.Stage.TheVariants.{Idle}
 use Rattle.com_turn.specs.declared.view.View.{View}
 use Rattle.com_turn.specs.Histories.{IsPrefixOf, items_of}
-use Rattle.com_turn.specs.Passes.{PassState, IsReady, AreReady, IsKept, AgreeOnMarks}
+use Rattle.com_turn.specs.Passes.{PassState, IsReady, AreReady, IsKept, AgreeOnToggles}
 use Rattle.com_turn.specs.Views.{joined, known_of, Gathers}
 use Rattle.com_turn.specs.Rule.{Knows, HasEveryNumber, IsClosed}
 use Rattle.com_turn.proofs.Lists.{Some-injective, no_item, contains_cons, contains_first, contains_rest, slice_get-within, get_of_index, index_of_get, index_any}
@@ -100,5 +100,5 @@ module _ {V I B : Type 0} (log_of : V → List I) (base_of : V → B) (owner : I
   pub all_kept : (all : List (PassState I B)) → All (λ pass. Gathers view (known_of pass)) all → All (λ pass. IsKept log_of base_of owner value pass) all
   all_kept all gathered k d lt = kept (get_or all k d) (gathered k d lt)
 
-  pub agree : (all : List (PassState I B)) → All (λ pass. Gathers view (known_of pass)) all → AgreeOnMarks all
-  agree all gathered = (c.history.marks, λ k d lt. (knows (get_or all k d) (gathered k d lt)).marks)
+  pub agree : (all : List (PassState I B)) → All (λ pass. Gathers view (known_of pass)) all → AgreeOnToggles all
+  agree all gathered = (c.history.toggles, λ k d lt. (knows (get_or all k d) (gathered k d lt)).toggles)

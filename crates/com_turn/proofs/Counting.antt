@@ -1,22 +1,22 @@
--- Who is active, and how many are, when a mark is added.
+-- Who is active, and how many are, when a toggle is added.
 use Rattle.std.proofs.Common.{◌≡◌, ◌≢◌, ℕ, zero, suc, ◌+◌, ◌<◌, ◌≤◌, Bool, cond, List, [], ◌∷◌, ◌++◌, count_by, false, sym, refl, ap, ◌∙◌, arith, eqb, eq-eqb, ne_eqb}
 use mathlib.Core.Logic.{dite}
 use native.Mathlib.Decide.{ℕ_discrete}
 use Rattle.std.specs.List.{range_with_len}
 use Rattle.std.proofs.lemmas.List.Sums.{fold-append, sum_by-cons}
-use Rattle.com_turn.specs.declared.view.Mark.{Mark}
-use Rattle.com_turn.specs.Marks.{mark_of, is_active, active_count}
+use Rattle.com_turn.specs.declared.view.Toggle.{Toggle}
+use Rattle.com_turn.specs.Toggles.{toggle_of, is_active, active_count}
 
-is_active-append : (party : ℕ) (marks : List Mark) (mark : Mark) → is_active party (marks ++ mark ∷ []) ≡ cond (eqb mark.number party) mark.active (is_active party marks)
-is_active-append party marks mark = fold-append (λ (active : Bool) (m : Mark). cond (eqb m.number party) m.active active) false marks (mark ∷ [])
+is_active-append : (party : ℕ) (toggles : List Toggle) (toggle : Toggle) → is_active party (toggles ++ toggle ∷ []) ≡ cond (eqb toggle.number party) toggle.active (is_active party toggles)
+is_active-append party toggles toggle = fold-append (λ (active : Bool) (m : Toggle). cond (eqb m.number party) m.active active) false toggles (toggle ∷ [])
 
-pub is_active-own : (party : ℕ) (marks : List Mark) (active : Bool) → is_active party (marks ++ mark_of party active ∷ []) ≡ active
-is_active-own party marks active =
-    is_active-append party marks (mark_of party active) ∙ ap (λ (b : Bool). cond b active (is_active party marks)) (eq-eqb party party refl)
+pub is_active-own : (party : ℕ) (toggles : List Toggle) (active : Bool) → is_active party (toggles ++ toggle_of party active ∷ []) ≡ active
+is_active-own party toggles active =
+    is_active-append party toggles (toggle_of party active) ∙ ap (λ (b : Bool). cond b active (is_active party toggles)) (eq-eqb party party refl)
 
-pub is_active-other : (party other : ℕ) (marks : List Mark) (active : Bool) → other ≢ party → is_active party (marks ++ mark_of other active ∷ []) ≡ is_active party marks
-is_active-other party other marks active ne =
-    is_active-append party marks (mark_of other active) ∙ ap (λ (b : Bool). cond b active (is_active party marks)) (ne_eqb other party ne)
+pub is_active-other : (party other : ℕ) (toggles : List Toggle) (active : Bool) → other ≢ party → is_active party (toggles ++ toggle_of other active ∷ []) ≡ is_active party toggles
+is_active-other party other toggles active ne =
+    is_active-append party toggles (toggle_of other active) ∙ ap (λ (b : Bool). cond b active (is_active party toggles)) (ne_eqb other party ne)
 
 abbrev bit : Bool → ℕ
 bit b = cond b 1 0
@@ -51,9 +51,9 @@ count_by-change f g at (suc n) from le lt same =
     omega (arith, a, b, head, rest))
 
 -- one party became active or inactive
-pub active_count-change : (parties party : ℕ) (marks : List Mark) (active : Bool) → party < parties
-    → active_count parties (marks ++ mark_of party active ∷ []) + cond (is_active party marks) 1 0 ≡ active_count parties marks + cond active 1 0
-active_count-change parties party marks active lt =
-    let after : List Mark = marks ++ mark_of party active ∷ [] in
-    let change = count_by-change (λ k. is_active k marks) (λ k. is_active k after) party parties 0 (omega arith) (omega (arith, lt)) (λ k ne. sym (is_active-other k party marks active (λ e. ne (sym e)))) in
-    change ∙ ap (λ (b : Bool). active_count parties marks + cond b 1 0) (is_active-own party marks active)
+pub active_count-change : (parties party : ℕ) (toggles : List Toggle) (active : Bool) → party < parties
+    → active_count parties (toggles ++ toggle_of party active ∷ []) + cond (is_active party toggles) 1 0 ≡ active_count parties toggles + cond active 1 0
+active_count-change parties party toggles active lt =
+    let after : List Toggle = toggles ++ toggle_of party active ∷ [] in
+    let change = count_by-change (λ k. is_active k toggles) (λ k. is_active k after) party parties 0 (omega arith) (omega (arith, lt)) (λ k ne. sym (is_active-other k party toggles active (λ e. ne (sym e)))) in
+    change ∙ ap (λ (b : Bool). active_count parties toggles + cond b 1 0) (is_active-own party toggles active)

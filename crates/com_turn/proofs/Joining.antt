@@ -10,7 +10,7 @@ use Rattle.com_turn.specs.declared.view.Stage.{Stage}
 use Rattle.com_turn.specs.declared.view.Stage.TheVariants.{Idle, Holding}
 use Rattle.com_turn.specs.declared.view.View.{View}
 use Rattle.com_turn.specs.Histories.{IsPrefixOf}
-use Rattle.com_turn.specs.Marks.{party_of}
+use Rattle.com_turn.specs.Toggles.{party_of}
 use Rattle.com_turn.specs.Views.{tickets_out, ticket_of, active_of, joined, spent_view}
 use Rattle.com_turn.specs.Rule.{Knows, IsStage, IsLive, IsBelow, IsCount, AreApart, EachLive, IsRuled}
 use Rattle.com_turn.proofs.Lists.{None-Some, sum_by-replaced, contains_cons}
@@ -80,7 +80,7 @@ module _ {V I B : Type 0} (log_of : V → List I) (base_of : V → B) (owner : I
       let views : List (View I B) = set (set s.views id after) other spent_view in
       record {
         history = r.history;
-        line = r.line;
+        tickets = r.tickets;
         few = r.few;
         room = let a = r.room in let b : length views ≡ length s.views = length-set (set s.views id after) other spent_view ∙ length-set s.views id after in omega (arith, a, b);
         words = record {
@@ -90,14 +90,14 @@ module _ {V I B : Type 0} (log_of : V → List I) (base_of : V → B) (owner : I
           count = r.words.count;
           active = r.words.active ∙ (let a = sum_by-replaced active_of s.views id v after at in let b = sum_by-replaced active_of (set s.views id after) other w gone at_both in
               let c : active_of w ≡ 0 = ap (λ (z : Bool). cond z 1 0) wn in let d : active_of gone ≡ 0 = refl in let e : active_of after ≡ active_of v = refl in omega (arith, a, b, c, d, e));
-          marked = r.words.marked;
+          toggled = r.words.toggled;
         };
-        tickets = let a = sum_by-replaced ticket_of s.views id v after at in let b = sum_by-replaced ticket_of (set s.views id after) other w gone at_both in
-            let c : ticket_of w ≡ 0 = ap tickets_out wi in let d : ticket_of gone ≡ 0 = refl in let e : ticket_of after ≡ ticket_of v = refl in let t = r.tickets in omega (arith, t, a, b, c, d, e);
+        drawn = let a = sum_by-replaced ticket_of s.views id v after at in let b = sum_by-replaced ticket_of (set s.views id after) other w gone at_both in
+            let c : ticket_of w ≡ 0 = ap tickets_out wi in let d : ticket_of gone ≡ 0 = refl in let e : ticket_of after ≡ ticket_of v = refl in let t = r.drawn in omega (arith, t, a, b, c, d, e);
         home = r.home;
         holder = λ seat e. holder_else (set s.views id after) other w gone seat at_both (λ ticket f. idle-Holding w.stage ticket wi f)
             (holder_else s.views id v after seat at (λ ticket f. idle-Holding v.stage ticket idle f) (r.holder seat e));
-        live = each_joined s.views id other v w (λ j u. IsLive owner r.history r.line j u)
+        live = each_joined s.views id other v w (λ j u. IsLive owner r.history r.tickets j u)
             record {
               known = record {
                 parties = kv.parties;
@@ -106,10 +106,10 @@ module _ {V I B : Type 0} (log_of : V → List I) (base_of : V → B) (owner : I
                 number = kv.number;
                 past_opening = longer_has (IsPrefixOf r.history.opened) v.known.seen w.known.seen kv.past_opening kw.past_opening;
                 items = seen_longer owner v.known.number (length r.history.opened) r.history.log v.known.seen w.known.seen (prefix_length r.history.opened v.known.seen kv.past_opening) kw.items.front kv.items;
-                marks = seen_longer party_of v.known.number 0 r.history.marks v.known.marks w.known.marks (omega arith) kw.marks.front kv.marks;
+                toggles = seen_longer party_of v.known.number 0 r.history.toggles v.known.toggles w.known.toggles (omega arith) kw.toggles.front kv.toggles;
               };
               olds = each_old v w (Knows owner r.history) kv kw l.olds m.olds;
-              stage = subst (IsStage r.history r.line id after) (sym idle) tt;
+              stage = subst (IsStage r.history r.tickets id after) (sym idle) tt;
               active = l.active;
             }
             (λ j u _ _ e lu. r.live j u e lu);

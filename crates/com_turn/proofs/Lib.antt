@@ -1,12 +1,12 @@
-mod Lists
-mod Fronts
+pub mod Lists
+pub mod Fronts
 mod Counting
 mod Changes
 mod Drawing
 mod Looking
 mod Committing
 mod PassingOn
-mod Marking
+mod Toggling
 mod Numbering
 mod Joining
 mod Closing

@@ -68,6 +68,11 @@ module _ {A : Type 0} where
   slice_get-within (x ∷ xs) zero lt = (x, refl)
   slice_get-within (x ∷ xs) (suc i) lt = slice_get-within xs i (omega (arith, lt))
 
+  pub get_within : (l : List A) (i : ℕ) (a : A) → slice_get l i ≡ Some a → i < length l
+  get_within [] i a e = absurd (None-Some a e)
+  get_within (x ∷ xs) zero a e = omega arith
+  get_within (x ∷ xs) (suc i) a e = let h = get_within xs i a e in omega (arith, h)
+
   pub get_of_index : (l : List A) (i : ℕ) (a : A) → i < length l → get_or l i a ≡ a → slice_get l i ≡ Some a
   get_of_index [] i a lt e = absurd (omega (arith, lt))
   get_of_index (x ∷ xs) zero a lt e = ap Some e

@@ -13,7 +13,7 @@ use Rattle.com_turn.specs.declared.view.Stage.TheVariants.{Idle, Waiting, Holdin
 use Rattle.com_turn.specs.declared.view.View.{View}
 use Rattle.com_turn.specs.Histories.{HasSeen}
 use Rattle.com_turn.specs.Views.{HasTicket, tickets_out, ticket_of, served}
-use Rattle.com_turn.specs.Rule.{Line, IsHome, IsStage, IsRuled}
+use Rattle.com_turn.specs.Rule.{Tickets, IsHome, IsStage, IsRuled}
 use Rattle.com_turn.specs.Steps.{Serves, Looks}
 use Rattle.com_turn.proofs.Lists.{within, sum_by-few, Some-injective}
 use Rattle.com_turn.proofs.Fronts.{prefix_trans, seen_all}
@@ -35,18 +35,18 @@ one_at_most (Holding n) = omega arith
 
 module _ {V I B : Type 0} (log_of : V → List I) (base_of : V → B) (owner : I → ℕ) where
   -- a ticket that is out and is the word SERVING is the one that is served, since fewer than 2^64 are out
-  served_ticket : (s : State (Option V) (View I B)) (r : IsRuled log_of base_of owner s) (k : ℕ) → r.line.serving ≤ k → k < r.line.next → slice_index s.words 1 ≡ k % 2 ^ 64 → r.line.serving ≡ k
+  served_ticket : (s : State (Option V) (View I B)) (r : IsRuled log_of base_of owner s) (k : ℕ) → r.tickets.serving ≤ k → k < r.tickets.next → slice_index s.words 1 ≡ k % 2 ^ 64 → r.tickets.serving ≡ k
   served_ticket s r k low high e =
-      let few = sum_by-few ticket_of (λ (view : View I B). one_at_most view.stage) s.views in let room = r.room in let bound = r.few in let t = r.tickets in
-      one_turn r.line.serving k (2 ^ 64) low (omega (arith, few, room, bound, t)) (sym r.words.serving ∙ e)
+      let few = sum_by-few ticket_of (λ (view : View I B). one_at_most view.stage) s.views in let room = r.room in let bound = r.few in let t = r.drawn in
+      one_turn r.tickets.serving k (2 ^ 64) low (omega (arith, few, room, bound, t)) (sym r.words.serving ∙ e)
 
   -- while a seat waits with the ticket that is served, no seat is at its turn
-  nobody : (s : State (Option V) (View I B)) (r : IsRuled log_of base_of owner s) (id : ℕ) (v : View I B) (k : ℕ) → get_elem? s.views id ≡ some v → v.spent ≡ false → v.stage ≡ Waiting k → r.line.serving ≡ k
-      → (holder : Option ℕ) → r.line.holder ≡ holder → r.line.holder ≡ None
+  nobody : (s : State (Option V) (View I B)) (r : IsRuled log_of base_of owner s) (id : ℕ) (v : View I B) (k : ℕ) → get_elem? s.views id ≡ some v → v.spent ≡ false → v.stage ≡ Waiting k → r.tickets.serving ≡ k
+      → (holder : Option ℕ) → r.tickets.holder ≡ holder → r.tickets.holder ≡ None
   nobody s r id v k at live st is None e = e
   nobody s r id v k at live st is (Some j) e =
       let h = r.holder j e in let u : View I B = h.0 in let n : ℕ = h.1 in
-      let stage = subst (IsStage r.history r.line j u) h.3 (r.live j u h.2 h.4).stage in
+      let stage = subst (IsStage r.history r.tickets j u) h.3 (r.live j u h.2 h.4).stage in
       let ne : id ≢ j = λ same. waiting-Holding k n v.stage st (ap (λ (z : View I B). z.stage) (some-injective v u (sym at ∙ (ap (get_elem? s.views) same ∙ h.2))) ∙ h.3) in
       absurd ((r.apart id v at live j u h.2 h.4 ne).tickets k (has_ticket v.stage k (inl st)) (subst (HasTicket u.stage) (stage.0 ∙ is) (has_ticket u.stage n (inr h.3))))
 
@@ -56,37 +56,37 @@ module _ {V I B : Type 0} (log_of : V → List I) (base_of : V → B) (owner : I
 
   -- the slot is at home with the value, and comes out
   serves : (slots id : ℕ) (me : Me (Option V) (View I B)) (k : ℕ) (s : State (Option V) (View I B)) (r : IsRuled log_of base_of owner s) (value : V)
-      → me.0.stage ≡ Waiting k → me.0.spent ≡ false → get_elem? s.views id ≡ some me.0 → slice_index s.words 1 ≡ k % 2 ^ 64 → r.line.serving ≡ k → k < r.line.next → me.0.olds ≡ []
+      → me.0.stage ≡ Waiting k → me.0.spent ≡ false → get_elem? s.views id ≡ some me.0 → slice_index s.words 1 ≡ k % 2 ^ 64 → r.tickets.serving ≡ k → k < r.tickets.next → me.0.olds ≡ []
       → s.homes ≡ some (Some value) ∷ [] → log_of value ≡ r.history.log → base_of value ≡ r.history.base → CanLook slots id me s
   serves slots id me k s r value st live at hit is below bare home log base =
-      let v : View I B = me.0 in let w : View I B = served k (log_of value) r.history.marks v in
-      let l = r.live id v at live in let kn = l.known in let line : Line = record r.line { holder = Some id } in let n : ℕ = slice_index s.words 1 in
+      let v : View I B = me.0 in let w : View I B = served k (log_of value) r.history.toggles v in
+      let l = r.live id v at live in let kn = l.known in let tickets : Tickets = record r.tickets { holder = Some id } in let n : ℕ = slice_index s.words 1 in
       let items : HasSeen owner v.known.number (length v.known.opened) (log_of value) v.known.seen =
       subst (λ (z : List I × List I). HasSeen owner v.known.number (length z.0) z.1 v.known.seen) (λ i. (sym kn.opened i, sym log i)) kn.items in
-      let tickets = λ (j : ℕ) (u : View I B) (ne : j ≢ id) (e : get_elem? s.views j ≡ some u) (lu : u.spent ≡ false). (r.apart id v at live j u e lu (λ h. ne (sym h))).tickets k (has_ticket v.stage k (inl st)) in
+      let unlike = λ (j : ℕ) (u : View I B) (ne : j ≢ id) (e : get_elem? s.views j ≡ some u) (lu : u.spent ≡ false). (r.apart id v at live j u e lu (λ h. ne (sym h))).tickets k (has_ticket v.stage k (inl st)) in
       let told : Serves log_of base_of owner me k (w, (0, Some value) ∷ me.1) = (
         value,
-        record { after_is = refl; base = kn.base ∙ ap Some (sym base); items = items; marks = kn.marks; active = sym l.active },
+        record { after_is = refl; base = kn.base ∙ ap Some (sym base); items = items; toggles = kn.toggles; active = sym l.active },
         refl,
       ) in (
         w,
         takes 0 (Some value),
         subst (λ z. get_elem? z 0 ≡ some (some (Some value))) (sym home) refl,
-        changed log_of base_of owner s r id v w r.history.log r.history.marks line (set s.words 1 n) (set s.homes 0 none) record {
+        changed log_of base_of owner s r id v w r.history.log r.history.toggles tickets (set s.words 1 n) (set s.homes 0 none) record {
           at = at;
           live = live;
           stays = record { number = refl; olds = refl; count = refl; live = live };
           items_stay = λ _ _. refl;
-          marks_stay = λ _ _. refl;
+          toggles_stay = λ _ _. refl;
           words_are = record {
             four = length-set s.words 1 n ∙ r.words.four;
             ticket = get_or-set_other s.words 1 0 n 0 (λ e. omega arith) ∙ r.words.ticket;
             serving = get_or-set_same s.words 1 n 0 (omega (arith, r.words.four)) ∙ r.words.serving;
             count = r.words.count ∙ ap (λ (z : ℕ). length r.history.opened + z) (sym (get_or-set_other s.words 1 2 n 0 (λ e. omega arith)));
             active = get_or-set_other s.words 1 3 n 0 (λ e. omega arith) ∙ (r.words.active ∙ sym (active_same s.views id v w at refl));
-            marked = get_or-set_other s.words 1 3 n 0 (λ e. omega arith) ∙ r.words.marked;
+            toggled = get_or-set_other s.words 1 3 n 0 (λ e. omega arith) ∙ r.words.toggled;
           };
-          tickets = let h : ticket_of v ≡ 1 = ap tickets_out st in let t = r.tickets in omega (arith, h, t);
+          drawn = let h : ticket_of v ≡ 1 = ap tickets_out st in let t = r.drawn in omega (arith, h, t);
           home = ap (λ (z : List (maybe.Option (Option V))). set z 0 none) home;
           holder = λ seat e. (w, k, subst (λ z. get_elem? (set s.views id w) z ≡ some w) (Some-injective id seat e) (set_here s.views id w (within s.views id v at)), refl, live);
           here = record {
@@ -97,7 +97,7 @@ module _ {V I B : Type 0} (log_of : V → List I) (base_of : V → B) (owner : I
               number = kn.number;
               past_opening = prefix_trans r.history.opened v.known.seen (log_of value) kn.past_opening items.front;
               items = seen_all owner v.known.number (length r.history.opened) r.history.log (log_of value) log;
-              marks = seen_all _ v.known.number 0 r.history.marks r.history.marks refl;
+              toggles = seen_all _ v.known.number 0 r.history.toggles r.history.toggles refl;
             };
             olds = l.olds;
             stage = (sym is, below, bare, refl, log, refl);
@@ -107,10 +107,10 @@ module _ {V I B : Type 0} (log_of : V → List I) (base_of : V → B) (owner : I
             record {
               known = m.known;
               olds = m.olds;
-              stage = stage_else r.history r.history r.line line j u u.stage refl (omega arith) m.stage (λ has. tickets j u ne e lu (subst (HasTicket u.stage) is has));
+              stage = stage_else r.history r.history r.tickets tickets j u u.stage refl (omega arith) m.stage (λ has. unlike j u ne e lu (subst (HasTicket u.stage) is has));
               active = m.active;
             },
-            λ ticket a b. tickets j u ne e lu (subst (HasTicket u.stage) (sym a) b),
+            λ ticket a b. unlike j u ne e lu (subst (HasTicket u.stage) (sym a) b),
           );
         },
         λ n own. let same = one_ticket v.stage k n st own in (
@@ -134,9 +134,9 @@ module _ {V I B : Type 0} (log_of : V → List I) (base_of : V → B) (owner : I
       → Allows (IsRuled log_of base_of owner) slots id me 1 (λ n. n) (Looks log_of base_of owner (step slots 1 0 0 none) me)
   looks slots id me k st live s r wide at _ = dite (ℕ_discrete (slice_index s.words 1) (k % 2 ^ 64))
       (λ hit.
-      let stage = subst (IsStage r.history r.line id me.0) st (r.live id me.0 at live).stage in
+      let stage = subst (IsStage r.history r.tickets id me.0) st (r.live id me.0 at live).stage in
       let is = served_ticket s r k stage.0 stage.1 hit in
-      let free = nobody s r id me.0 k at live st is r.line.holder refl in
+      let free = nobody s r id me.0 k at live st is r.tickets.holder refl in
       let home = subst (λ z. IsHome log_of base_of r.history.log r.history.base z s.homes) free r.home in
       serves slots id me k s r home.0 st live at hit is stage.1 stage.2 home.1 home.2 home.3)
       (λ miss. misses slots id me k s r st at miss)

@@ -5,27 +5,27 @@ use lib.ListN.{get_elem?}
 use Rattle.std.proofs.lemmas.List.Sums.{sum_by-append, sum_by-cons}
 use Rattle.atomic_table.specs.Table.{Splits}
 use Rattle.atomic_table.proofs.Lists.{at_set, at_longer}
-use Rattle.com_turn.specs.declared.view.Mark.{Mark}
+use Rattle.com_turn.specs.declared.view.Toggle.{Toggle}
 use Rattle.com_turn.specs.declared.view.View.{View}
-use Rattle.com_turn.specs.Marks.{party_of}
+use Rattle.com_turn.specs.Toggles.{party_of}
 use Rattle.com_turn.specs.Views.{ticket_of, active_of, number_or_0, with_next_count, view_of_next}
 use Rattle.com_turn.specs.Rule.{History, IsLive, IsBelow, IsCount, AreApart, EachLive, IsRuled}
 use Rattle.com_turn.proofs.Lists.{None-Some, cons-nil, sum_by-replaced, at_end, no_item}
 use Rattle.com_turn.proofs.Fronts.{prefix_length, seen_none}
 use Rattle.com_turn.proofs.Changes.{active_same, holder_same}
 
--- a party without marks is not active
-fold_none : (party : ℕ) (marks : List Mark) (before : Bool) → filter (λ (m : Mark). party_of m == party) marks ≡ [] → fold (λ (active : Bool) (m : Mark). cond (eqb m.number party) m.active active) before marks ≡ before
+-- a party without toggles is not active
+fold_none : (party : ℕ) (toggles : List Toggle) (before : Bool) → filter (λ (m : Toggle). party_of m == party) toggles ≡ [] → fold (λ (active : Bool) (m : Toggle). cond (eqb m.number party) m.active active) before toggles ≡ before
 fold_none party [] before e = refl
 fold_none party (m ∷ ms) before e = go (eqb m.number party) refl (fold_none party ms before)
   where
     go : (own : Bool) → eqb m.number party ≡ own
-        → (filter (λ (m : Mark). party_of m == party) ms ≡ [] → fold (λ (active : Bool) (m : Mark). cond (eqb m.number party) m.active active) before ms ≡ before)
-        → fold (λ (active : Bool) (m : Mark). cond (eqb m.number party) m.active active) (cond (eqb m.number party) m.active before) ms ≡ before
-    go true is rest = absurd (cons-nil m (filter (λ (m : Mark). party_of m == party) ms) (subst (λ (b : Bool). cond b (m ∷ filter (λ (m : Mark). party_of m == party) ms) (filter (λ (m : Mark). party_of m == party) ms) ≡ []) is e))
+        → (filter (λ (m : Toggle). party_of m == party) ms ≡ [] → fold (λ (active : Bool) (m : Toggle). cond (eqb m.number party) m.active active) before ms ≡ before)
+        → fold (λ (active : Bool) (m : Toggle). cond (eqb m.number party) m.active active) (cond (eqb m.number party) m.active before) ms ≡ before
+    go true is rest = absurd (cons-nil m (filter (λ (m : Toggle). party_of m == party) ms) (subst (λ (b : Bool). cond b (m ∷ filter (λ (m : Toggle). party_of m == party) ms) (filter (λ (m : Toggle). party_of m == party) ms) ≡ []) is e))
     go false is rest =
-        ap (λ (b : Bool). fold (λ (active : Bool) (m : Mark). cond (eqb m.number party) m.active active) (cond b m.active before) ms) is
-        ∙ rest (subst (λ (b : Bool). cond b (m ∷ filter (λ (m : Mark). party_of m == party) ms) (filter (λ (m : Mark). party_of m == party) ms) ≡ []) is e)
+        ap (λ (b : Bool). fold (λ (active : Bool) (m : Toggle). cond (eqb m.number party) m.active active) (cond b m.active before) ms) is
+        ∙ rest (subst (λ (b : Bool). cond b (m ∷ filter (λ (m : Toggle). party_of m == party) ms) (filter (λ (m : Toggle). party_of m == party) ms) ≡ []) is e)
 
 module _ {I B : Type 0} where
   sum_by-end : (f : View I B → ℕ) (views : List (View I B)) (u : View I B) → f u ≡ 0 → sum_by f (views ++ u ∷ []) ≡ sum_by f views
@@ -78,11 +78,11 @@ module _ {V I B : Type 0} (log_of : V → List I) (base_of : V → B) (owner : I
       let many : length views ≡ length s.views + 1 = let a = length-append (set s.views id left) (right ∷ []) in let b = length-set s.views id left in omega (arith, a, b) in
       let below : number_or_0 v.count < r.history.parties = let p = kn.parties in omega (arith, number, few, p) in
       let no_items = own.2 (number_or_0 v.count) (let z : number_or_0 v.count ≡ count = number in omega (arith, z)) in
-      let no_marks = own.3 (number_or_0 v.count) (let z : number_or_0 v.count ≡ count = number in omega (arith, z)) in
+      let no_toggles = own.3 (number_or_0 v.count) (let z : number_or_0 v.count ≡ count = number in omega (arith, z)) in
       let others = λ (j : ℕ) (u : View I B) (ne : j ≢ id) (e : get_elem? s.views j ≡ some u) (lu : u.spent ≡ false). r.apart id v at live j u e lu (λ h. ne (sym h)) in
       record {
         history = r.history;
-        line = r.line;
+        tickets = r.tickets;
         few = r.few;
         room = let a = own.0 in let p = kn.parties in omega (arith, many, a, few, p);
         words = record {
@@ -91,12 +91,12 @@ module _ {V I B : Type 0} (log_of : V → List I) (base_of : V → B) (owner : I
           serving = r.words.serving;
           count = r.words.count;
           active = r.words.active ∙ sym (sum_by-end active_of (set s.views id left) right refl ∙ active_same s.views id v left at refl);
-          marked = r.words.marked;
+          toggled = r.words.toggled;
         };
-        tickets = let a = sum_by-end ticket_of (set s.views id left) right refl in let h = sum_by-replaced ticket_of s.views id v left at in let t = r.tickets in omega (arith, a, h, t);
+        drawn = let a = sum_by-end ticket_of (set s.views id left) right refl in let h = sum_by-replaced ticket_of s.views id v left at in let t = r.drawn in omega (arith, a, h, t);
         home = r.home;
         holder = λ seat e. let h = holder_same s.views id v left seat at refl live (r.holder seat e) in (h.0, h.1, at_longer (set s.views id left) (right ∷ []) seat h.0 h.2, h.3, h.4);
-        live = each_split s.views id v (λ j u. IsLive owner r.history r.line j u)
+        live = each_split s.views id v (λ j u. IsLive owner r.history r.tickets j u)
             record { known = kn; olds = l.olds; stage = l.stage; active = l.active }
             record {
               known = record {
@@ -106,11 +106,11 @@ module _ {V I B : Type 0} (log_of : V → List I) (base_of : V → B) (owner : I
                 number = below;
                 past_opening = kn.past_opening;
                 items = seen_none owner (number_or_0 v.count) (length r.history.opened) r.history.log v.known.seen (prefix_length r.history.opened v.known.seen kn.past_opening) kn.items.front no_items;
-                marks = seen_none party_of (number_or_0 v.count) 0 r.history.marks v.known.marks (omega arith) kn.marks.front no_marks;
+                toggles = seen_none party_of (number_or_0 v.count) 0 r.history.toggles v.known.toggles (omega arith) kn.toggles.front no_toggles;
               };
               olds = λ old h. absurd (no_item old h);
               stage = tt;
-              active = sym (fold_none (number_or_0 v.count) r.history.marks false no_marks);
+              active = sym (fold_none (number_or_0 v.count) r.history.toggles false no_toggles);
             }
             (λ j u ne e lu. r.live j u e lu);
         counts = each_split s.views id v (λ _ u. IsCount owner r.history views u.count) (

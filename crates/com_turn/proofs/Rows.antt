@@ -1,8 +1,8 @@
 -- Worked rows of the definitions.
 use Rattle.std.proofs.Common.{◌≡◌, ℕ, true, false, List, [], ◌∷◌, refl}
-use Rattle.com_turn.specs.declared.view.Mark.{Mark}
+use Rattle.com_turn.specs.declared.view.Toggle.{Toggle}
 use Rattle.com_turn.specs.Histories.{items_of, longer}
-use Rattle.com_turn.specs.Marks.{mark_of, is_active, active_count}
+use Rattle.com_turn.specs.Toggles.{toggle_of, is_active, active_count}
 
 abbrev owner_of : ℕ × ℕ → ℕ
 owner_of item = item.0
@@ -21,19 +21,19 @@ own_of_2 : items_of owner_of 2 2 log ≡ []
 own_of_2 = refl
 
 -- 0 enters, 2 enters, 0 leaves, 1 enters
-abbrev marks : List Mark
-marks = mark_of 0 true ∷ mark_of 2 true ∷ mark_of 0 false ∷ mark_of 1 true ∷ []
+abbrev toggles : List Toggle
+toggles = toggle_of 0 true ∷ toggle_of 2 true ∷ toggle_of 0 false ∷ toggle_of 1 true ∷ []
 
-left : is_active 0 marks ≡ false
+left : is_active 0 toggles ≡ false
 left = refl
 
-entered : is_active 2 marks ≡ true
+entered : is_active 2 toggles ≡ true
 entered = refl
 
-never_entered : is_active 3 marks ≡ false
+never_entered : is_active 3 toggles ≡ false
 never_entered = refl
 
-two_of_four : active_count 4 marks ≡ 2
+two_of_four : active_count 4 toggles ≡ 2
 two_of_four = refl
 
 nobody_yet : active_count 4 [] ≡ 0

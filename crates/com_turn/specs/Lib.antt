@@ -1,5 +1,5 @@
 pub mod Histories
-pub mod Marks
+pub mod Toggles
 pub mod Passes
 pub mod Views
 pub mod Rule

@@ -1,13 +1,16 @@
 -- What a pass shows, and what the calls on a turn say of it.
 use Rattle.std.specs.Prelude.{◌≡◌, ℕ, ◌<◌, Bool, false, List, [], length, Option, None, Some, slice_get, All}
 use Rattle.atomic_table.specs.Seated.{TableId}
-use Rattle.com_turn.specs.declared.view.Mark.{Mark}
+use Rattle.com_turn.specs.declared.view.Toggle.{Toggle}
 use Rattle.com_turn.specs.Histories.{IsPrefixOf, items_of, HasSeen}
-use Rattle.com_turn.specs.Marks.{party_of}
+use Rattle.com_turn.specs.Toggles.{party_of}
+
+-- which turn it is
+abbrev pub TurnId : Type 0
+TurnId = TableId
 
 pub record PassState (I B : Type 0) : Type 0 where
-  -- which turn it is a pass of
-  pub turn : TableId
+  pub turn : TurnId
   pub number : ℕ
   pub parties : ℕ
   -- the base and the log with which the turn was opened
@@ -15,12 +18,12 @@ pub record PassState (I B : Type 0) : Type 0 where
   pub opened : List I
   -- the log as far as it has seen it, and who became active or inactive until then
   pub seen : List I
-  pub marks : List Mark
+  pub toggles : List Toggle
   pub at_turn : Bool
   pub active : Bool
   -- how often it took the turn
   pub turns : ℕ
-  -- what `active` answered last in its last turn
+  -- what `active` answered last in its last turn, where it neither entered nor left since
   pub found : Option ℕ
 
 -- the pass's own entries: the items of the log past the opening that have its number
@@ -28,7 +31,7 @@ abbrev pub mine : {I B : Type 0} → (I → ℕ) → PassState I B → List I
 mine owner pass = items_of owner pass.number (length pass.opened) pass.seen
 
 -- the pass of a party when the turn is opened
-abbrev pub new_pass : {I B : Type 0} → TableId → ℕ → B → List I → ℕ → PassState I B
+abbrev pub new_pass : {I B : Type 0} → TurnId → ℕ → B → List I → ℕ → PassState I B
 new_pass turn parties base log number = record {
   turn = turn;
   number = number;
@@ -36,7 +39,7 @@ new_pass turn parties base log number = record {
   base = base;
   opened = log;
   seen = log;
-  marks = [];
+  toggles = [];
   at_turn = false;
   active = false;
   turns = 0;
@@ -44,12 +47,12 @@ new_pass turn parties base log number = record {
 }
 
 -- One pass for each party, in the order of their numbers.
-pub record AreNew {I B : Type 0} (turn : TableId) (parties : ℕ) (base : B) (log : List I) (passes : List (PassState I B)) : Type 0 where
+pub record AreNew {I B : Type 0} (turn : TurnId) (parties : ℕ) (base : B) (log : List I) (passes : List (PassState I B)) : Type 0 where
   pub many : length passes ≡ parties
   pub each : (i : ℕ) → i < parties → slice_get passes i ≡ Some (new_pass turn parties base log i)
 
 -- The pass of a party with which the turn may be closed.
-pub record IsReady {I B : Type 0} (turn : TableId) (parties number : ℕ) (pass : PassState I B) : Type 0 where
+pub record IsReady {I B : Type 0} (turn : TurnId) (parties number : ℕ) (pass : PassState I B) : Type 0 where
   pub turn_is : pass.turn ≡ turn
   pub number_is : pass.number ≡ number
   pub parties_are : pass.parties ≡ parties
@@ -57,7 +60,7 @@ pub record IsReady {I B : Type 0} (turn : TableId) (parties number : ℕ) (pass 
   pub inactive : pass.active ≡ false
 
 -- all passes of the turn, in the order of their numbers
-abbrev pub AreReady : {I B : Type 0} → TableId → List (PassState I B) → Type 0
+abbrev pub AreReady : {I B : Type 0} → TurnId → List (PassState I B) → Type 0
 AreReady {I} {B} turn passes = (i : ℕ) (pass : PassState I B) → slice_get passes i ≡ Some pass → IsReady turn (length passes) i pass
 
 -- What is known of a pass and of the value at the end: the base is the pass's, the log begins with what the pass has
@@ -67,10 +70,10 @@ pub record IsKept {V I B : Type 0} (log_of : V → List I) (base_of : V → B) (
   pub seen : IsPrefixOf pass.seen (log_of value)
   pub own : items_of owner pass.number (length pass.opened) (log_of value) ≡ mine owner pass
 
--- the pass has seen a front of these marks, in which all marks of its party stand
-abbrev pub HasMarks : {I B : Type 0} → List Mark → PassState I B → Type 0
-HasMarks marks pass = HasSeen party_of pass.number 0 marks pass.marks
+-- the pass has seen a front of these toggles, in which all toggles of its party stand
+abbrev pub HasToggles : {I B : Type 0} → List Toggle → PassState I B → Type 0
+HasToggles toggles pass = HasSeen party_of pass.number 0 toggles pass.toggles
 
--- all that became active or inactive stands in one list, of which each pass has seen a front with all marks of its party
-abbrev pub AgreeOnMarks : {I B : Type 0} → List (PassState I B) → Type 0
-AgreeOnMarks passes = (marks : List Mark) × All (HasMarks marks) passes
+-- all that became active or inactive stands in one list, of which each pass has seen a front with all toggles of its party
+abbrev pub AgreeOnToggles : {I B : Type 0} → List (PassState I B) → Type 0
+AgreeOnToggles passes = (toggles : List Toggle) × All (HasToggles toggles) passes

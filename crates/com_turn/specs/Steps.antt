@@ -4,8 +4,8 @@ use Rattle.atomic_table.specs.Table.{Me, Step, rest}
 use Rattle.com_turn.specs.declared.view.Stage.TheVariants.{Idle, Waiting}
 use Rattle.com_turn.specs.declared.view.View.{View}
 use Rattle.com_turn.specs.Histories.{HasSeen}
-use Rattle.com_turn.specs.Marks.{party_of, is_active, active_count}
-use Rattle.com_turn.specs.Views.{at_stage, served, with_item, with_mark, with_found}
+use Rattle.com_turn.specs.Toggles.{party_of, is_active, active_count}
+use Rattle.com_turn.specs.Views.{at_stage, served, with_item, with_toggle, with_found}
 
 -- what a step tells: of the step, the seat before, the number found and the seat after
 abbrev pub Tells : Type 0 → Type 0 → Type 0 → Type 1
@@ -16,14 +16,14 @@ module _ {V I B : Type 0} where
   abbrev pub Draws : Tells V I B
   Draws step seat found after = (ticket : ℕ) × (found ≡ ticket % 2 ^ 64) × (after ≡ (at_stage (Waiting ticket) seat.0, seat.1))
 
-  -- The view has come to its turn with this value. It has seen the value's log and all marks, which begin with what it
+  -- The view has come to its turn with this value. It has seen the value's log and all toggles, which begin with what it
   -- had seen, and in which nothing of its own is new.
   pub record IsServed (log_of : V → List I) (base_of : V → B) (owner : I → ℕ) (before : View I B) (ticket : ℕ) (value : V) (after : View I B) : Type 0 where
-    pub after_is : after ≡ served ticket (log_of value) after.known.marks before
+    pub after_is : after ≡ served ticket (log_of value) after.known.toggles before
     pub base : before.known.base ≡ Some (base_of value)
     pub items : HasSeen owner before.known.number (length before.known.opened) (log_of value) before.known.seen
-    pub marks : HasSeen party_of before.known.number 0 after.known.marks before.known.marks
-    pub active : is_active before.known.number after.known.marks ≡ before.active
+    pub toggles : HasSeen party_of before.known.number 0 after.known.toggles before.known.toggles
+    pub active : is_active before.known.number after.known.toggles ≡ before.active
 
   -- the view has come to its turn, and the slot is out with its seat
   abbrev pub Serves : (V → List I) → (V → B) → (I → ℕ) → Me (Option V) (View I B) → ℕ → Me (Option V) (View I B) → Type 0
@@ -45,12 +45,12 @@ module _ {V I B : Type 0} where
   PassesOn step seat found after = after ≡ (at_stage Idle seat.0, rest seat.1)
 
   abbrev pub Enters : Tells V I B
-  Enters step seat found after = after ≡ (with_mark true seat.0, seat.1)
+  Enters step seat found after = after ≡ (with_toggle true seat.0, seat.1)
 
   abbrev pub Leaves : Tells V I B
-  Leaves step seat found after = after ≡ (with_mark false seat.0, seat.1)
+  Leaves step seat found after = after ≡ (with_toggle false seat.0, seat.1)
 
-  -- the number found is that of the parties that are active by the marks that the view has seen
+  -- the number found is that of the parties that are active by the toggles that the view has seen
   abbrev pub CountsActive : Tells V I B
   CountsActive step seat found after =
-      (after ≡ (with_found found seat.0, seat.1)) × (found ≡ active_count seat.0.known.parties seat.0.known.marks)
+      (after ≡ (with_found found seat.0, seat.1)) × (found ≡ active_count seat.0.known.parties seat.0.known.toggles)

@@ -1,14 +1,14 @@
 -- What the seats at the table know, and what the steps make of it.
 use Rattle.std.specs.Prelude.{◌≡◌, ℕ, ◌+◌, ◌⊎◌, Contains, Bool, true, false, List, [], ◌∷◌, ◌++◌, Option, None, Some, if◌then◌else◌}
 use Rattle.atomic_table.specs.declared.shared.Seat.{Seat}
-use Rattle.com_turn.specs.declared.view.Mark.{Mark}
+use Rattle.com_turn.specs.declared.view.Toggle.{Toggle}
 use Rattle.com_turn.specs.declared.view.Known.{Known}
 use Rattle.com_turn.specs.declared.view.Stage.{Stage}
 use Rattle.com_turn.specs.declared.view.Stage.TheVariants.{Idle, Waiting, Holding}
 use Rattle.com_turn.specs.declared.view.View.{View}
 use Rattle.com_turn.specs.declared.view.Opening.{Opening}
 use Rattle.com_turn.specs.Histories.{IsPrefixOf, longer}
-use Rattle.com_turn.specs.Marks.{mark_of}
+use Rattle.com_turn.specs.Toggles.{toggle_of}
 use Rattle.com_turn.specs.Passes.{PassState}
 
 abbrev pub HasTicket : Stage → ℕ → Type 0
@@ -41,7 +41,7 @@ module _ {I B : Type 0} where
   -- the view with which a turn is opened, which keeps the count of numbers given out
   abbrev pub first_view : List I → B → ℕ → View I B
   first_view log base parties = record {
-    known = record { number = 0; parties = parties; base = Some base; opened = log; seen = log; marks = [] };
+    known = record { number = 0; parties = parties; base = Some base; opened = log; seen = log; toggles = [] };
     olds = [];
     stage = Idle;
     active = false;
@@ -54,7 +54,7 @@ module _ {I B : Type 0} where
   -- what is left of a view that ended in another
   abbrev pub spent_view : View I B
   spent_view = record {
-    known = record { number = 0; parties = 0; base = None; opened = []; seen = []; marks = [] };
+    known = record { number = 0; parties = 0; base = None; opened = []; seen = []; toggles = [] };
     olds = [];
     stage = Idle;
     active = false;
@@ -67,10 +67,10 @@ module _ {I B : Type 0} where
   abbrev pub at_stage : Stage → View I B → View I B
   at_stage stage view = record view { stage = stage }
 
-  -- the view that has come to its turn, and has seen the log and all marks
-  abbrev pub served : ℕ → List I → List Mark → View I B → View I B
-  served ticket log marks view = record view {
-    known = record view.known { seen = log; marks = marks };
+  -- the view that has come to its turn, and has seen the log and all toggles
+  abbrev pub served : ℕ → List I → List Toggle → View I B → View I B
+  served ticket log toggles view = record view {
+    known = record view.known { seen = log; toggles = toggles };
     stage = Holding ticket;
     turns = view.turns + 1;
     found = None;
@@ -80,9 +80,9 @@ module _ {I B : Type 0} where
   with_item item view = record view { known = record view.known { seen = view.known.seen ++ item ∷ [] } }
 
   -- the view that has become active or inactive
-  abbrev pub with_mark : Bool → View I B → View I B
-  with_mark active view = record view {
-    known = record view.known { marks = view.known.marks ++ mark_of view.known.number active ∷ [] };
+  abbrev pub with_toggle : Bool → View I B → View I B
+  with_toggle active view = record view {
+    known = record view.known { toggles = view.known.toggles ++ toggle_of view.known.number active ∷ [] };
     active = active;
     found = None;
   }
@@ -109,7 +109,7 @@ module _ {I B : Type 0} where
   -- the view that took another in, and the other is spent
   abbrev pub joined : View I B → View I B → View I B
   joined view other = record view {
-    known = record view.known { seen = longer view.known.seen other.known.seen; marks = longer view.known.marks other.known.marks };
+    known = record view.known { seen = longer view.known.seen other.known.seen; toggles = longer view.known.toggles other.known.toggles };
     olds = view.known ∷ other.known ∷ (view.olds ++ other.olds);
     count = None;
   }
@@ -129,7 +129,7 @@ shown base_of opening seat = let view = seat.me.0 in record {
   base = base_of opening.value.value;
   opened = view.known.opened;
   seen = view.known.seen;
-  marks = view.known.marks;
+  toggles = view.known.toggles;
   at_turn = is_at_turn view.stage;
   active = view.active;
   turns = view.turns;
@@ -138,7 +138,7 @@ shown base_of opening seat = let view = seat.me.0 in record {
 
 -- what the view of a pass knows
 abbrev pub known_of : {I B : Type 0} → PassState I B → Known I B
-known_of pass = record { number = pass.number; parties = pass.parties; base = Some pass.base; opened = pass.opened; seen = pass.seen; marks = pass.marks }
+known_of pass = record { number = pass.number; parties = pass.parties; base = Some pass.base; opened = pass.opened; seen = pass.seen; toggles = pass.toggles }
 
 -- the view knows it, or took it in
 abbrev pub Gathers : {I B : Type 0} → View I B → Known I B → Type 0

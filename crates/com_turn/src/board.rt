@@ -2,8 +2,8 @@
 ghost use Rattle.std.specs.Prelude.{◌≡◌, ℕ, ◌%◌, ◌^◌, ◌<◌, [], ◌∷◌, length, Some, None, true, false, MatchBool, IfOk, IfErr};
 ghost use Rattle.com_turn.specs.Rule.{HasEveryNumber, IsClosed};
 ghost use Rattle.com_turn.specs.Steps.{Serves};
-ghost use Rattle.com_turn.specs.Marks.{active_count};
-ghost use Rattle.com_turn.specs.Views.{first_view, is_at_turn, at_stage, with_item, with_mark, with_found, with_next_count, view_of_next, joined};
+ghost use Rattle.com_turn.specs.Toggles.{active_count};
+ghost use Rattle.com_turn.specs.Views.{first_view, is_at_turn, at_stage, with_item, with_toggle, with_found, with_next_count, view_of_next, joined};
 ghost use Rattle.com_turn.specs.declared.view.Stage.TheVariants.{Idle, Waiting};
 
 use crate::logged::Logged;
@@ -164,7 +164,7 @@ impl<V: Logged> Board<V> {
         requires at_turn { (is_at_turn seat.old.me.0.stage ≡ true) × (seat.old.me.0.spent ≡ false) }
         requires inactive { seat.old.me.0.active ≡ false }
         ensures own { seat.new.table_id ≡ seat.old.table_id }
-        ensures entered { seat.new.me ≡ (with_mark true seat.old.me.0, seat.old.me.1) }
+        ensures entered { seat.new.me ≡ (with_toggle true seat.old.me.0, seat.old.me.1) }
     {
         self.table.shared.fetch_add::<Enter>(seat, ACTIVE, 1);
     }
@@ -174,7 +174,7 @@ impl<V: Logged> Board<V> {
         requires at_turn { (is_at_turn seat.old.me.0.stage ≡ true) × (seat.old.me.0.spent ≡ false) }
         requires active { seat.old.me.0.active ≡ true }
         ensures own { seat.new.table_id ≡ seat.old.table_id }
-        ensures left { seat.new.me ≡ (with_mark false seat.old.me.0, seat.old.me.1) }
+        ensures left { seat.new.me ≡ (with_toggle false seat.old.me.0, seat.old.me.1) }
     {
         self.table.shared.fetch_sub::<Leave>(seat, ACTIVE, 1);
     }
@@ -184,7 +184,7 @@ impl<V: Logged> Board<V> {
         requires at_turn { (is_at_turn seat.old.me.0.stage ≡ true) × (seat.old.me.0.spent ≡ false) }
         ensures own { seat.new.table_id ≡ seat.old.table_id }
         ensures found { seat.new.me ≡ (with_found result seat.old.me.0, seat.old.me.1) }
-        ensures count { result ≡ active_count seat.old.me.0.known.parties seat.old.me.0.known.marks }
+        ensures count { result ≡ active_count seat.old.me.0.known.parties seat.old.me.0.known.toggles }
     {
         self.table.shared.load::<CountActive>(seat, ACTIVE)
     }

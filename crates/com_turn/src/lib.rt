@@ -34,4 +34,4 @@ mod view;
 pub use logged::Logged;
 pub use pass::Pass;
 pub use turn::{CloseRefused, Turn};
-pub use view::{Known, Law, Mark, Opening, Stage, View};
+pub use view::Toggle;

@@ -1,8 +1,8 @@
 //! The turn, and the calls of its parties.
 ghost use Rattle.std.specs.Prelude.{◌≡◌, ℕ, ◌+◌, ◌%◌, ◌^◌, ◌<◌, [], ◌∷◌, ◌++◌, length, Some, None, true, false, All, IfOk, IfErr};
 ghost use Rattle.com_turn.specs.Histories.{IsPrefixOf};
-ghost use Rattle.com_turn.specs.Marks.{mark_of, is_active, active_count};
-ghost use Rattle.com_turn.specs.Passes.{mine, AreNew, AreReady, IsKept, HasMarks, AgreeOnMarks};
+ghost use Rattle.com_turn.specs.Toggles.{toggle_of, is_active, active_count};
+ghost use Rattle.com_turn.specs.Passes.{mine, AreNew, AreReady, IsKept, HasToggles, AgreeOnToggles};
 ghost use Rattle.com_turn.specs.Steps.{IsServed};
 ghost use Rattle.com_turn.specs.declared.view.Stage.TheVariants.{Waiting};
 
@@ -76,14 +76,14 @@ impl<V: Logged> Turn<V> {
     pub fn take(&self, rt: &impl Wait, pass: &mut Pass<V>) -> V
         requires turn { pass.old.turn ≡ self.now }
         requires idle { pass.old.at_turn ≡ false }
-        // the pass is at its turn, and has seen the log and all marks
-        ensures pass { pass.new ≡ record pass.old { seen = V.log result; marks = pass.new.marks; at_turn = true; turns = pass.old.turns + 1; found = None } }
+        // the pass is at its turn, and has seen the log and all toggles
+        ensures pass { pass.new ≡ record pass.old { seen = V.log result; toggles = pass.new.toggles; at_turn = true; turns = pass.old.turns + 1; found = None } }
         ensures base { V.base result ≡ pass.old.base }
         // both begin with what it had seen, and nothing of its own is new
         ensures seen { IsPrefixOf pass.old.seen (V.log result) }
         ensures mine { mine V.owner pass.new ≡ mine V.owner pass.old }
-        ensures marks { HasMarks pass.new.marks pass.old }
-        ensures active { is_active pass.new.number pass.new.marks ≡ pass.new.active }
+        ensures toggles { HasToggles pass.new.toggles pass.old }
+        ensures active { is_active pass.new.number pass.new.toggles ≡ pass.new.active }
         ensures opened { IsPrefixOf pass.old.opened pass.old.seen }
     {
         let ticket = self.board.draw(&mut pass.seat);
@@ -139,7 +139,7 @@ impl<V: Logged> Turn<V> {
         requires turn { pass.old.turn ≡ self.now }
         requires at_turn { pass.old.at_turn ≡ true }
         requires inactive { pass.old.active ≡ false }
-        ensures { pass.new ≡ record pass.old { marks = pass.old.marks ++ mark_of pass.old.number true ∷ []; active = true; found = None } }
+        ensures { pass.new ≡ record pass.old { toggles = pass.old.toggles ++ toggle_of pass.old.number true ∷ []; active = true; found = None } }
     {
         self.board.enter(&mut pass.seat);
         pass.active = true;
@@ -150,18 +150,18 @@ impl<V: Logged> Turn<V> {
         requires turn { pass.old.turn ≡ self.now }
         requires at_turn { pass.old.at_turn ≡ true }
         requires active { pass.old.active ≡ true }
-        ensures { pass.new ≡ record pass.old { marks = pass.old.marks ++ mark_of pass.old.number false ∷ []; active = false; found = None } }
+        ensures { pass.new ≡ record pass.old { toggles = pass.old.toggles ++ toggle_of pass.old.number false ∷ []; active = false; found = None } }
     {
         self.board.leave(&mut pass.seat);
         pass.active = false;
     }
 
-    /// How many passes are active, by the marks of all passes.
+    /// How many passes are active, by the toggles of all passes.
     pub fn active(&self, pass: &mut Pass<V>) -> u64
         requires turn { pass.old.turn ≡ self.now }
         requires at_turn { pass.old.at_turn ≡ true }
         ensures found { pass.new ≡ record pass.old { found = Some result } }
-        ensures count { result ≡ active_count pass.old.parties pass.old.marks }
+        ensures count { result ≡ active_count pass.old.parties pass.old.toggles }
     {
         self.board.count_active(&mut pass.seat)
     }
@@ -171,7 +171,7 @@ impl<V: Logged> Turn<V> {
         requires some { 0 < length passes.items }
         requires all { AreReady self passes.items }
         ensures kept { IfOk result (λ value. All (λ pass. IsKept V.log V.base V.owner value pass) passes.items) }
-        ensures marks { IfOk result (λ _. AgreeOnMarks passes.items) }
+        ensures toggles { IfOk result (λ _. AgreeOnToggles passes.items) }
         ensures refused { IfErr result (λ r. (r.turn ≡ self) × (r.passes.items ≡ passes.items)) }
     {
         let Turn { board, bell: _ } = self;

@@ -6,30 +6,30 @@ use std::marker::PhantomData;
 use std::snapshot::Snapshot;
 
 /// A party became active, or inactive.
-pub struct Mark {
+pub struct Toggle {
     pub number: u32,
     pub active: bool,
 }
 
-/// What a party knows: its number, the opening, and the log and the marks as far as it has seen them.
-pub struct Known<I, B> {
+/// What a party knows: its number, the opening, and the log and the toggles as far as it has seen them.
+pub(crate) struct Known<I, B> {
     pub number: u32,
     pub parties: u32,
     pub base: Option<B>,
     pub opened: LinkedList<I>,
     pub seen: LinkedList<I>,
-    pub marks: LinkedList<Mark>,
+    pub toggles: LinkedList<Toggle>,
 }
 
 /// Without a ticket, with one that is not served yet, or at the turn.
-pub enum Stage {
+pub(crate) enum Stage {
     Idle,
     Waiting(u64),
     Holding(u64),
 }
 
 /// What a seat knows. A spent view is what is left of one that ended in another, which keeps what both knew in `olds`.
-pub struct View<I, B> {
+pub(crate) struct View<I, B> {
     pub known: Known<I, B>,
     pub olds: LinkedList<Known<I, B>>,
     pub stage: Stage,
@@ -42,13 +42,13 @@ pub struct View<I, B> {
 
 /// The value and the number of parties at the opening.
 #[derive(Drop)]
-pub struct Opening<V> {
+pub(crate) struct Opening<V> {
     pub value: Snapshot<V>,
     pub parties: u32,
 }
 
 /// The rule of the turn.
-pub struct Law<V> {
+pub(crate) struct Law<V> {
     value: PhantomData<V>,
 }
 

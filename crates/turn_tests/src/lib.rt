@@ -3,7 +3,7 @@
 
 ghost use Rattle.std.specs.Prelude.{◌≡◌, ◌+◌, ◌<◌, false, not, length, All, IfOk};
 ghost use Rattle.com_turn.specs.Passes.{AreReady};
-ghost use Rattle.turn_tests.specs.Diaries.{IsFree, IsAnother};
+ghost use Rattle.turn_tests.specs.Diaries.{IsFree, IsAfter};
 
 use com_turn::{Logged, Pass, Turn};
 use std::alloc::{AllocError, Global};
@@ -75,7 +75,7 @@ pub fn last_pass(turn: &Turn<Diary>, passes: &mut Vec<Pass<Diary>>) -> Pass<Diar
 /// Writes a row in a turn, if there is memory.
 pub fn write_row(rt: &impl Wait, turn: &Turn<Diary>, pass: &mut Pass<Diary>, number: u32)
     requires { (pass.old.turn ≡ turn.now) × (pass.old.at_turn ≡ false) }
-    ensures { IsAnother pass.old pass.new }
+    ensures { IsAfter 1 pass.old pass.new }
 {
     let mut diary = turn.take(rt, pass);
     let row = Row {
@@ -89,14 +89,9 @@ pub fn write_row(rt: &impl Wait, turn: &Turn<Diary>, pass: &mut Pass<Diary>, num
 }
 
 /// Writes rows with the numbers from 0, each in a turn of its own.
-pub fn write_rows(
-    rt: &impl Wait,
-    turn: &Turn<Diary>,
-    pass: Pass<Diary>,
-    count: u32,
-) -> Pass<Diary>
+pub fn write_rows(rt: &impl Wait, turn: &Turn<Diary>, pass: Pass<Diary>, count: u32) -> Pass<Diary>
     requires { (pass.turn ≡ turn.now) × (pass.at_turn ≡ false) }
-    ensures { IsAnother pass result }
+    ensures { IsAfter count pass result }
 {
     let mut pass = pass;
     for number in 0..count {
@@ -151,13 +146,13 @@ pub fn write_in_threads<R: Threads + Wait + Sync>(
         passes,
         &|pass: Pass<Diary>| -> Pass<Diary>
             requires { (pass.turn ≡ turn.now) × (pass.at_turn ≡ false) }
-            ensures { IsAnother pass result }
+            ensures { IsAfter count pass result }
         { write_rows(rt, turn, pass, count) },
     )
 }
 
 /// In a turn of its own the pass becomes active where `enters` says so, or inactive, and counts the active ones.
-pub fn mark(rt: &impl Wait, turn: &Turn<Diary>, pass: &mut Pass<Diary>, enters: bool) -> u64
+pub fn set_active(rt: &impl Wait, turn: &Turn<Diary>, pass: &mut Pass<Diary>, enters: bool) -> u64
     requires { (pass.old.turn ≡ turn.now) × (pass.old.at_turn ≡ false) × (pass.old.active ≡ not enters) }
     ensures { (pass.new.turn ≡ turn.now) × (pass.new.at_turn ≡ false) × (pass.new.active ≡ enters) }
 {
@@ -175,7 +170,7 @@ pub fn mark(rt: &impl Wait, turn: &Turn<Diary>, pass: &mut Pass<Diary>, enters: 
 /// How many are active, and how many rows there are.
 pub fn look(rt: &impl Wait, turn: &Turn<Diary>, pass: &mut Pass<Diary>) -> (u64, usize)
     requires { (pass.old.turn ≡ turn.now) × (pass.old.at_turn ≡ false) }
-    ensures { IsAnother pass.old pass.new }
+    ensures { IsAfter 1 pass.old pass.new }
 {
     let diary = turn.take(rt, pass);
     let count = turn.active(pass);

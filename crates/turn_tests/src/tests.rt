@@ -49,10 +49,10 @@ fn active_passes_are_counted(rt: HostRuntime) -> Result<(), Fail> {
     let mut second = last_pass(&turn, &mut passes);
     let mut first = last_pass(&turn, &mut passes);
     assert!(&rt; look(&rt, &turn, &mut first).0 == 0);
-    assert!(&rt; mark(&rt, &turn, &mut first, true) == 1);
-    assert!(&rt; mark(&rt, &turn, &mut second, true) == 2);
+    assert!(&rt; set_active(&rt, &turn, &mut first, true) == 1);
+    assert!(&rt; set_active(&rt, &turn, &mut second, true) == 2);
     assert!(&rt; first.is_active());
-    assert!(&rt; mark(&rt, &turn, &mut first, false) == 1);
+    assert!(&rt; set_active(&rt, &turn, &mut first, false) == 1);
     assert!(&rt; !first.is_active());
     assert!(&rt; second.is_active());
     Ok(())

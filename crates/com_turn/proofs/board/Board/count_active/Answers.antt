@@ -1,6 +1,6 @@
 use Rattle.std.proofs.Common.{rules}
 use Rattle.com_turn.proofs.Settling.{ticket_at_turn}
-use Rattle.com_turn.proofs.Marking.{counts_active}
+use Rattle.com_turn.proofs.Toggling.{counts_active}
 use Rattle.com_turn.proofs.board.Board.count_active.Goals as goal
 
 pub load-requires : goal.load-requires

@@ -1,6 +1,6 @@
 use Rattle.std.proofs.Common.{rules}
 use Rattle.com_turn.proofs.Settling.{ticket_at_turn}
-use Rattle.com_turn.proofs.Marking.{enters}
+use Rattle.com_turn.proofs.Toggling.{enters}
 use Rattle.com_turn.proofs.board.Board.enter.Goals as goal
 
 pub fetch_add-requires : goal.fetch_add-requires

@@ -1,6 +1,6 @@
 use Rattle.std.proofs.Common.{rules}
 use Rattle.com_turn.proofs.Settling.{ticket_at_turn}
-use Rattle.com_turn.proofs.Marking.{leaves}
+use Rattle.com_turn.proofs.Toggling.{leaves}
 use Rattle.com_turn.proofs.board.Board.leave.Goals as goal
 
 pub fetch_sub-requires : goal.fetch_sub-requires

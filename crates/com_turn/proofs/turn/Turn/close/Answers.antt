@@ -13,6 +13,6 @@ pub returns-clause-kept : goal.returns-clause-kept
 returns-clause-kept g c =
     all_kept g.V.Logged.log g.V.Logged.base g.V.Logged.owner c.collect-seat.result.me.0 c.close.result c.close.ensures c.args.passes.items c.collect-seat.ensures.all
 
-pub returns-clause-marks : goal.returns-clause-marks
-returns-clause-marks g c =
+pub returns-clause-toggles : goal.returns-clause-toggles
+returns-clause-toggles g c =
     agree g.V.Logged.log g.V.Logged.base g.V.Logged.owner c.collect-seat.result.me.0 c.close.result c.close.ensures c.args.passes.items c.collect-seat.ensures.all
