@@ -18,7 +18,7 @@ use Rattle.com_tree.specs.Written.{IsWritten}
 use Rattle.com_tree.specs.Places.{path_behind, paths_behind, paths, node_with}
 use Rattle.com_tree.proofs.Building.{both}
 use Rattle.com_tree.proofs.Walks.{IsRest, IsNext, step_of, all_left, first_at_top}
-use Rattle.com_recv.specs.Queued.{designated}
+use Rattle.com_recv.specs.Incoming.{designated}
 
 -- a path of one to four names
 abbrev IsPath : List (List ℕ) → Type 0
