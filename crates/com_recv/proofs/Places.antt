@@ -39,7 +39,7 @@ one_more leaf past within =
     let same : past - leaf ≡ suc (past - (leaf + 1)) = omega (arith, within) in
     rw same refl
 
-within_some : {X : Type 0} → (xs : List X) (i : ℕ) → i < length xs → is_some (slice_get xs i) ≡ true
+pub within_some : {X : Type 0} → (xs : List X) (i : ℕ) → i < length xs → is_some (slice_get xs i) ≡ true
 within_some [] i within = absurd (omega (arith, within))
 within_some (x ∷ xs) zero within = refl
 within_some (x ∷ xs) (suc i) within = within_some xs i (omega (arith, within))

@@ -113,6 +113,11 @@ waiting_under tree waiting node = count_by (λ w. is_under tree node w.leaf.numb
 abbrev pub has_message : List TreeRow → List Waiting → Node → Bool
 has_message tree waiting node = list_any (λ w. is_under tree node w.leaf.number) waiting
 
+-- the unit holds a rest from a leaf under the node
+abbrev pub has_rest : List TreeRow → List Held → ℕ → Node → Bool
+has_rest tree held unit node =
+    list_any (λ h. h.unit == unit && is_under tree node h.leaf.number) held
+
 -- the first message has arrived before the second
 abbrev pub IsEarlier : Waiting → Waiting → Type 0
 IsEarlier w later = w.message.arrival < later.message.arrival

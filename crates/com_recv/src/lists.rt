@@ -25,8 +25,8 @@ pub struct Held {
 
 /// The arrival number of the first message on each leaf.
 pub fn heads_of(waiting: &[Waiting]) -> [Option<u64>; MAX_LEAVES as usize]
-    requires { All (λ w. w.leaf.number < 64) waiting.now }
-    ensures { (leaf : ℕ) → leaf < 64 → slice_get result leaf ≡ Some (first_number waiting.now leaf) }
+    requires { All (λ w. w.leaf.number < MAX_LEAVES) waiting.now }
+    ensures { (leaf : ℕ) → leaf < MAX_LEAVES → slice_get result leaf ≡ Some (first_number waiting.now leaf) }
 {
     let mut heads = [None; MAX_LEAVES as usize];
     for message in waiting {

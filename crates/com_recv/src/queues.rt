@@ -1,9 +1,9 @@
 //! The queues of a tree: what waits on its leaves, and what units hold of it.
-ghost use Rattle.std.specs.Prelude.{◌≡◌, ◌<◌, ◌≤◌, ◌++◌, ◌∷◌, [], List, length, OnOk, OnErr, IfOk, IfErr, IfSome, is_some, option_map, option_and_then, slice_get};
+ghost use Rattle.std.specs.Prelude.{◌≡◌, ◌<◌, ◌≤◌, ◌++◌, ◌∷◌, ◌||◌, [], List, length, OnOk, OnErr, IfOk, IfErr, IfSome, is_some, option_map, option_and_then, slice_get};
 ghost use Rattle.std.specs.List.{All};
 ghost use Rattle.com_tree.specs.declared.tree.TreeRow.{TreeRow as TreeNode};
 ghost use Rattle.com_tree.specs.Written.{IsWritten, leaf_count};
-ghost use Rattle.com_recv.specs.Incoming.{IsTreeOf, nothing, designated, chosen_leaf, held_under, without_unit, place_of_choice};
+ghost use Rattle.com_recv.specs.Incoming.{IsTreeOf, nothing, designated, chosen_leaf, held_under, has_message, has_rest, without_unit, place_of_choice};
 ghost use Rattle.com_recv.specs.Receiving.{receive, has_data, count};
 
 use crate::areas::{counted_area, no_data_area, refused_area};
@@ -125,8 +125,14 @@ impl Queues {
         }
         match self.first_under(tree, node) {
             Some(at) => {
-                let text =
-                    give_waiting(tree, &mut self.waiting, at, &mut self.held, area, request)?;
+                let text = give_waiting(
+                    tree,
+                    &mut self.waiting,
+                    at,
+                    &mut self.held,
+                    area,
+                    request,
+                )?;
                 Ok(Taken::Given(text))
             }
             None => {
@@ -137,30 +143,35 @@ impl Queues {
     }
 
     /// Whether a RECEIVE of the unit that designates a node has something to go on with: a rest that
-    /// it holds, or a message that the node chooses.
+    /// it holds from a leaf there, or a message that waits on one.
     pub fn has_data(&self, tree: &Tree, unit: u32, node: Node) -> bool
         requires tree { IsTreeOf tree.now self.now }
         requires node { node.row < length tree.now }
-        ensures { result ≡ has_data tree.now self.now unit node }
+        ensures data { result ≡ has_data tree.now self.now unit node }
+        ensures exact { result ≡ (has_rest tree.now self.now.held unit node
+            || has_message tree.now self.now.waiting node) }
     {
         self.held_under(tree, unit, node).is_some() || self.choice(tree, node).is_some()
     }
 
-    /// Whether a node chooses a leaf to take a message from.
+    /// Whether a message waits on a leaf under a node.
     pub fn has_message(&self, tree: &Tree, node: Node) -> bool
         requires tree { IsTreeOf tree.now self.now }
         requires node { node.row < length tree.now }
-        ensures { result ≡ is_some (chosen_leaf tree.now self.now.waiting node) }
+        ensures message { result ≡ has_message tree.now self.now.waiting node }
+        ensures choice { result ≡ is_some (chosen_leaf tree.now self.now.waiting node) }
     {
         self.choice(tree, node).is_some()
     }
 
-    /// The leaf that a node chooses, by the first message that waits on each leaf.
+    /// The leaf that a node chooses, by the first message that waits on each leaf: None exactly
+    /// where no message waits under the node.
     pub fn choice(&self, tree: &Tree, node: Node) -> Option<Leaf>
         requires tree { IsTreeOf tree.now self.now }
         requires node { node.row < length tree.now }
         ensures leaf { option_map (λ leaf. leaf.number) result
             ≡ chosen_leaf tree.now self.now.waiting node }
+        ensures some { is_some result ≡ has_message tree.now self.now.waiting node }
         ensures within { IfSome result (λ leaf. leaf.number < leaf_count tree.now) }
     {
         let heads = heads_of(&self.waiting);

@@ -10,7 +10,7 @@ use Rattle.com_msg.specs.declared.message.Message.{Message}
 use Rattle.com_net.specs.declared.net.Net.{Net}
 use Rattle.com_state.specs.State.{State, Waiting, Held, stopped, unit_mode}
 use Rattle.com_state.specs.Wholeness.{HandedOut, is_last_key, texts_of, each_once, numbers_on, is_arrived, IsWholeMessage, IsLeftWith}
-use Rattle.com_state.proofs.Members.{Among, any_among, among_any}
+use Rattle.com_recv.proofs.Members.{Among, any_among, among_any}
 use Rattle.com_state.proofs.Places.{get_front}
 use Rattle.com_state.proofs.Firsts.{AreApart, waiting_on}
 

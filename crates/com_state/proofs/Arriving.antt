@@ -10,7 +10,7 @@ use Rattle.com_msg.specs.declared.message.RawMessage.{RawMessage}
 use Rattle.com_net.specs.declared.net.Net.{Net}
 use Rattle.com_state.specs.State.{State, Waiting, Held, stopped, unit_mode}
 use Rattle.com_state.specs.Wholeness.{HandedOut, each_once, numbers_on, IsWholeMessage}
-use Rattle.com_state.proofs.Members.{Among, among_cases, among_filter, filter_among}
+use Rattle.com_recv.proofs.Members.{Among, among_cases, among_filter, filter_among}
 use Rattle.com_state.proofs.Places.{get_last, get_cases}
 use Rattle.com_state.proofs.Stays.{StayStopped}
 use Rattle.com_state.proofs.Changes.{SameStore, Comes, Stops}

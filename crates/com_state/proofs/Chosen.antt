@@ -14,7 +14,7 @@ use Rattle.com_net.specs.declared.net.Net.{Net}
 use Rattle.com_state.specs.State.{State, Waiting, Held}
 use Rattle.com_state.specs.Queues.{chosen_leaf, first_on, leaves_of, is_held_on, held_on, held_under}
 use Rattle.com_state.proofs.Frames.{option_cases}
-use Rattle.com_state.proofs.Members.{Among, map_among, among_range, find_among, none_among, any_among, among_any}
+use Rattle.com_recv.proofs.Members.{Among, map_among, among_range, find_among, none_among, any_among, among_any}
 use Rattle.com_state.proofs.Branches.{children_within, leaf_within}
 
 -- the first that there is, is one of them

@@ -7,7 +7,7 @@ use Rattle.std.proofs.lemmas.Option.{none-some, same_Some}
 use Rattle.com_msg.specs.declared.message.Message.{Message}
 use Rattle.com_state.specs.State.{Waiting}
 use Rattle.com_state.specs.Queues.{first_on, without_first}
-use Rattle.com_state.proofs.Members.{Among, among_cases, find_among}
+use Rattle.com_recv.proofs.Members.{Among, among_cases, find_among}
 
 -- no two wait with one number
 abbrev pub AreApart : List Waiting → Type 0

@@ -11,7 +11,7 @@ use Rattle.com_net.specs.declared.net.Net.{Net}
 use Rattle.com_state.specs.State.{State, Held}
 use Rattle.com_state.specs.Queues.{Next, is_held_on, without_held, with_held}
 use Rattle.com_state.specs.Wholeness.{HandedOut, handed_of, is_arrived, IsWholeMessage, IsLeftWith}
-use Rattle.com_state.proofs.Members.{Among, filter_among, among_filter, among_any}
+use Rattle.com_recv.proofs.Members.{Among, filter_among, among_filter, among_any}
 use Rattle.com_state.proofs.Taken.{is_nothing_left, taken_text, taken_key}
 use Rattle.com_state.proofs.Stays.{StayStopped}
 use Rattle.com_state.proofs.Changes.{Gives}

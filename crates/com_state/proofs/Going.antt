@@ -14,7 +14,7 @@ use Rattle.com_state.specs.State.{State, Waiting, Held}
 use Rattle.com_state.specs.Queues.{Next, is_held_on, held_under, chosen_leaf, first_on, without_first, next_waiting, next_rest}
 use Rattle.com_state.specs.Wholeness.{HandedOut, each_once}
 use Rattle.com_state.proofs.Frames.{option_cases}
-use Rattle.com_state.proofs.Members.{Among, find_among, filter_among, among_filter, among_map, map_among}
+use Rattle.com_recv.proofs.Members.{Among, find_among, filter_among, among_filter, among_map, map_among}
 use Rattle.com_state.proofs.Onces.{once_new, once_old}
 use Rattle.com_state.proofs.Chosen.{chosen_among_leaves, held_there, held_nowhere}
 use Rattle.com_state.proofs.Firsts.{AreApart, IsFirst, waiting_on, first_is, without_among, apart_without, apart_first, on_first, on_other}

@@ -3,7 +3,6 @@ mod Kept
 mod Stepped
 mod Others
 mod Refusals
-mod Members
 mod Taken
 mod Onces
 mod Branches

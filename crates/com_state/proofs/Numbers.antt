@@ -7,7 +7,7 @@ use Rattle.std.proofs.lemmas.List.{append-nil}
 use Rattle.std.proofs.lemmas.List.Elements.{filter-append}
 use Rattle.com_msg.specs.declared.message.RawMessage.{RawMessage}
 use Rattle.com_state.specs.Wholeness.{numbers_on, is_arrival_on}
-use Rattle.com_state.proofs.Members.{filter_alike, range_among}
+use Rattle.com_recv.proofs.Members.{filter_alike, range_among}
 use Rattle.com_state.proofs.Places.{get_last}
 
 -- one number more

@@ -11,7 +11,7 @@ use Rattle.com_msg.specs.Portion.{with_pieces}
 use Rattle.com_state.specs.State.{State, Held}
 use Rattle.com_state.specs.Queues.{with_held}
 use Rattle.com_state.specs.Wholeness.{HandedOut, is_last_key, texts_of, are_ended_once, IsWholeMessage, IsHandedTo, IsLeftWith, IsGivenWhole}
-use Rattle.com_state.proofs.Members.{Among}
+use Rattle.com_recv.proofs.Members.{Among}
 use Rattle.com_state.proofs.Taken.{is_nothing_left}
 use Rattle.com_state.proofs.Accounts.{IsRest}
 

@@ -1,4 +1,4 @@
-use Rattle.std.proofs.Common.{◌≡◌, Some, refl, sym, ap, subst, ◌∙◌, not, length, slice_get}
+use Rattle.std.proofs.Common.{◌≡◌, Some, refl, ap, subst, ◌∙◌, not, length, slice_get}
 use Rattle.std.specs.List.{remove}
 use Rattle.std.proofs.lemmas.Option.{slice_get_read}
 use Rattle.com_recv.specs.declared.lists.Held.{Held}

@@ -1,6 +1,5 @@
 use Rattle.std.proofs.Common.{◌≤◌, ◌<◌, length, not}
 use Rattle.std.specs.Prelude.{◌==◌}
-use Rattle.std.specs.List.{filter, All}
 use Rattle.std.proofs.lemmas.List.Elements.{All-filter}
 use Rattle.com_tree.specs.Written.{leaf_count}
 use Rattle.com_recv.specs.declared.lists.Held.{Held}

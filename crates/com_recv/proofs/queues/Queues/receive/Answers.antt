@@ -18,8 +18,7 @@ give_held-requires-clause-leaf c = λ h is.
     let inside = c.self.inside in
     let at = c.in-Some-held_under.at in
     let within : at < length inside.held.items = rw (← c.self.view_is) at c.in-Some-held_under.ensures.within in
-    let on = rw (← c.self.view_is) at c.requires.tree in
-    (
+    let on = rw (← c.self.view_is) at c.requires.tree in (
       stands_on (λ (h : Held). h.leaf.number < leaf_count c.args.tree.now) inside.held.items at h within on.held is,
       stands_on (λ (h : Held). 1 ≤ length h.rest.segments) inside.held.items at h within c.self.invariant.held is,
     )
@@ -65,8 +64,7 @@ give_waiting-requires-clause-leaf c = λ w is.
     let inside = c.self.inside in
     let at = c.in-Some-first_under.at in
     let first = first_at c.args.tree.now inside.waiting.items c.in-Some.node at (rw (← c.self.view_is) at c.in-Some-first_under.ensures) in
-    let on = rw (← c.self.view_is) at c.requires.tree in
-    (
+    let on = rw (← c.self.view_is) at c.requires.tree in (
       stands_on (λ (w : Waiting). w.leaf.number < leaf_count c.args.tree.now) inside.waiting.items at w first.1.within on.waiting is,
       stands_on (λ (w : Waiting). 1 ≤ length w.message.segments) inside.waiting.items at w first.1.within c.self.invariant.waiting is,
     )
