@@ -1,25 +1,26 @@
-mod Frames
-mod Kept
-mod Stepped
-mod Others
-mod Refusals
-mod Taken
-mod Onces
-mod Branches
-mod Chosen
-mod Places
-mod Stays
-mod Aside
-mod Changes
-mod Receives
-mod Changing
-mod Firsts
-mod Numbers
 mod Accounts
 mod Arriving
-mod Going
-mod Portioned
+mod Aside
+mod Branches
+mod Changes
+mod Changing
+mod Chosen
+mod Firsts
+mod Frames
 mod Giving
-pub mod Whole
+mod Going
+mod Kept
+mod Onces
+mod Others
+mod Places
+mod Portioned
 pub mod Portions
+mod Receives
+mod Refusals
+mod StepCases
+mod Stepped
+mod Stays
+mod Taken
+mod Verbs
+pub mod Whole
 pub mod Runs

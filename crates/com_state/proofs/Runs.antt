@@ -8,7 +8,7 @@ use Rattle.com_events.specs.declared.entry.Entry.{Entry}
 use Rattle.com_state.specs.State.{State, opening}
 use Rattle.com_state.specs.Steps.{step}
 use Rattle.com_state.specs.Histories.{LeadsTo, Legal, IsRun, run, run_from, entry_before, call_made}
-use Rattle.com_state.specs.Transcripts.{sent_by}
+use Rattle.com_state.specs.Transcripts.{sent_in, sent_by}
 
 -- what is mapped to something is something
 option_map_some : {A B P : Type 0} (f : A → B) (o : Option A) (y : B) → option_map f o ≡ Some y → ((x : A) → o ≡ Some x → f x ≡ y → P) → P
@@ -49,5 +49,5 @@ pub shown_of_legal : (net : Net) (history : List Entry) → Legal net history �
 shown_of_legal net history e = ap (option_map (λ r. r.0)) (run_of_leads (opening net) history e.0 e.1)
 
 -- what a history transmits is what has been transmitted in the state that it leads to
-pub sent_of_leads : (net : Net) (history : List Entry) (last : State) → LeadsTo (opening net) history last → sent_by net history ≡ last.sent
+pub sent_of_leads : (net : Net) (history : List Entry) (last : State) → LeadsTo (opening net) history last → sent_by net history ≡ sent_in last.outgoing
 sent_of_leads net history last h = rw (run_of_leads (opening net) history last h, sent_by) refl
