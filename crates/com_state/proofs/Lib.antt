@@ -14,13 +14,18 @@ mod Onces
 mod Others
 mod Places
 mod Portioned
-pub mod Portions
 mod Receives
 mod Refusals
+mod Stays
 mod StepCases
 mod Stepped
-mod Stays
 mod Taken
 mod Verbs
-pub mod Whole
+mod WorkedInputs
+mod WorkedNets
+mod WorkedReceives
+mod WorkedSends
+mod WorkedUnits
+pub mod Portions
 pub mod Runs
+pub mod Whole

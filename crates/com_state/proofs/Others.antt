@@ -155,8 +155,7 @@ stopped_then S next name unit reason reply found h =
 pub nothing_left : (S next : State) (name : List ℕ) (unit : ℕ) (reason : StopReason) (reply : Reply) → unit_number S.net name ≡ Some unit
     → step S (party.Unit name) (made.Stop reason) ≡ Some (reply, next) → (rests_of next unit ≡ []) × NothingBegun next.outgoing unit
 nothing_left S next name unit reason reply found h =
-    let then = stopped_then S next name unit reason reply found h in
-    (
+    let then = stopped_then S next name unit reason reply found h in (
       ap (filter (λ h. h.unit == unit)) then.0 ∙ none_left (λ h. h.unit == unit) S.incoming.held,
       subst (λ outgoing. NothingBegun outgoing unit) (sym then.1) (nothing_begun_then unit S.outgoing),
     )
@@ -166,8 +165,7 @@ pub others_left_by_stop : (S next : State) (name : List ℕ) (unit other : ℕ) 
     → step S (party.Unit name) (made.Stop reason) ≡ Some (reply, next)
     → (rests_of next other ≡ rests_of S other) × ((terminal : ℕ) → begun_for next.outgoing other terminal ≡ begun_for S.outgoing other terminal)
 others_left_by_stop S next name unit other reason reply found ne h =
-    let then = stopped_then S next name unit reason reply found h in
-    (
+    let then = stopped_then S next name unit reason reply found h in (
       ap (filter (λ h. h.unit == other)) then.0 ∙ others_left unit other S.incoming.held ne,
       λ terminal. ap (λ outgoing. begun_for outgoing other terminal) then.1 ∙ others_begun unit other S.outgoing terminal ne,
     )

@@ -27,7 +27,6 @@ held_arrival = held_first ++ (
     ∷ []
     )
 
-
 abbrev pub echo_party : Party
 echo_party = party.Unit (codes "ECHO")
 

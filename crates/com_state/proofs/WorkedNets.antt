@@ -9,13 +9,14 @@ use Rattle.com_net.specs.declared.net.Net.{Net}
 use Rattle.com_net.specs.declared.net.Feed.{Feed}
 use Rattle.com_net.specs.declared.net.Terminal.{Terminal}
 use Rattle.com_net.specs.declared.net.UnitRow.{UnitRow}
+use Rattle.std.proofs.Common.{rules}
 use Rattle.com_net.specs.Network.{IsNet}
 use Rattle.com_events.specs.declared.call.Party.{Party}
 use Rattle.com_events.specs.declared.call.Call.{Call}
 use Rattle.com_events.specs.declared.reply.Reply.{Reply}
 use Rattle.com_events.specs.declared.entry.Entry.{Entry}
 use Rattle.com_recv.specs.declared.lists.Held.{Held}
-use Rattle.com_state.specs.State.{opening}
+use Rattle.com_state.specs.State.{State, opening}
 use Rattle.com_state.specs.Histories.{run, call_made, state_after}
 use Rattle.com_state.specs.Transcripts.{transcript_of}
 use Rattle.com_state.specs.Wholeness.{HandedOut, all_handed, all_arrived, numbers_on}
@@ -23,11 +24,14 @@ use Rattle.com_msg.specs.declared.framing.Framing.TheVariants as framing
 use Rattle.com_tree.specs.declared.tree.Choose.TheVariants as choose
 use Rattle.com_events.specs.declared.call.Party.TheVariants as party
 
+-- what was transmitted and what is queued, for each terminal
+abbrev pub delivered : State → List (List OutMessage) × List (List OutMessage)
+delivered S = (map (λ d. d.sent) S.outgoing, map (λ d. d.queued) S.outgoing)
+
 -- these messages are transmitted and queued after these calls, for each terminal
 abbrev pub Delivers : Net → List Entry → List (List OutMessage) → List (List OutMessage) → Type 0
 Delivers net history sent queued =
-    option_map (λ S. (map (λ d. d.sent) S.outgoing, map (λ d. d.queued) S.outgoing))
-    (state_after net history) ≡ Some (sent, queued)
+    option_map delivered (state_after net history) ≡ Some (sent, queued)
 
 -- this is begun after these calls, for each terminal by each unit
 abbrev pub Begins : Net → List Entry → List (List Begun) → Type 0
@@ -228,16 +232,16 @@ uneven_net = record {
 }
 
 n1_is_net : IsNet n1
-n1_is_net = NETPROOF
+n1_is_net = search rules
 
 orders_net_is_net : IsNet orders_net
-orders_net_is_net = NETPROOF
+orders_net_is_net = search rules
 
 two_trees_net_is_net : IsNet two_trees_net
-two_trees_net_is_net = NETPROOF
+two_trees_net_is_net = search rules
 
 uneven_net_is_net : IsNet uneven_net
-uneven_net_is_net = NETPROOF
+uneven_net_is_net = search rules
 
 scheduled_net_is_net : IsNet scheduled_net
-scheduled_net_is_net = NETPROOF
+scheduled_net_is_net = search rules

@@ -13,7 +13,7 @@ use Rattle.com_msg.specs.declared.sending.Part.TheVariants as part
 use Rattle.com_events.specs.declared.call.StopReason.TheVariants as stop
 use Rattle.com_events.specs.declared.call.Call.TheVariants as call
 use Rattle.com_events.specs.declared.reply.Reply.TheVariants as reply
-use Rattle.com_state.proofs.WorkedNets.{Delivers, Begins, Prints, by_unit, n1, two_units_net, two_terminals_net}
+use Rattle.com_state.proofs.WorkedNets.{Outputs, Delivers, Begins, Prints, by_unit, n1, two_units_net, two_terminals_net}
 use Rattle.com_state.proofs.WorkedReceives.{starts}
 
 -- ECHO sends a part, and the area says what became of it
@@ -215,7 +215,6 @@ key_order =
     ∷ sends (codes "000100A0000T1          ") (part.Emi (advance.After 1)) None
     (codes "000100A0000T1          ")
     ∷ []
-
 
 -- a SEND serves each terminal that it knows, once
 each_known_once : IsRun two_terminals_net unknown_destination

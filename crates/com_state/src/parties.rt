@@ -15,11 +15,7 @@ pub enum UnitMode {
     Dormant,
     Running,
     /// It waits for this RECEIVE to go on, which has no NO DATA.
-    WaitingFor {
-        area: InArea,
-        kind: Kind,
-        size: u32,
-    },
+    WaitingFor { area: InArea, kind: Kind, size: u32 },
     Stopped,
 }
 
