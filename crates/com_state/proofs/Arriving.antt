@@ -1,5 +1,5 @@
 -- The accounts are kept where nothing changes, where a message arrives and where a unit stops.
-use Rattle.std.proofs.Common.{◌≡◌, ◌≢◌, ℕ, ◌+◌, ◌<◌, true, false, not, cond, List, [], ◌∷◌, ◌++◌, Some, Option, length, map, refl, sym, ap, ◌∙◌, inl, inr, arith, subst, eq-eqb, append_assoc, length-append}
+use Rattle.std.proofs.Common.{◌≡◌, ◌≢◌, ℕ, ◌+◌, ◌<◌, true, false, not, cond, List, [], ◌∷◌, ◌++◌, Some, length, map, refl, sym, ap, ◌∙◌, inl, inr, arith, subst, eq-eqb, append_assoc, length-append}
 use Rattle.std.specs.Prelude.{◌==◌}
 use Rattle.std.specs.List.{filter, concat}
 use Rattle.std.proofs.lemmas.Bool.{ne_eqb, cases_eq, not_from_false}
@@ -18,7 +18,6 @@ use Rattle.com_state.specs.State.{State, unit_mode}
 use Rattle.com_state.specs.declared.parties.UnitMode.TheVariants.{Stopped}
 use Rattle.com_recv.specs.declared.lists.Waiting.{Waiting}
 use Rattle.com_recv.specs.declared.lists.Held.{Held}
-use Rattle.com_recv.specs.Receiving.{count}
 use Rattle.com_recv.proofs.Members.{Among, among_cases, among_filter, filter_among}
 
 -- nothing is lost where what is held stays

@@ -4,7 +4,6 @@ use Rattle.std.specs.Prelude.{◌==◌, slice_get, IsTrue}
 use Rattle.std.specs.List.{list_all}
 use Rattle.std.proofs.lemmas.Bool.{cases_Bool, cases_eq, and_from, not-true, not_from_false, le-leb, true≢false}
 use Rattle.std.proofs.lemmas.Option.{same_Some, slice_get_within}
-use Rattle.com_msg.specs.declared.message.RawMessage.{RawMessage}
 use Rattle.com_msg.specs.declared.rest.Kind.{Kind}
 use Rattle.com_msg.specs.Portion.{take_portion}
 use Rattle.com_net.specs.declared.net.Net.{Net}
@@ -19,7 +18,7 @@ use Rattle.com_state.proofs.Portioned.{IsTaken, all_more, rest_more, whole_more,
 use Rattle.com_state.specs.State.{State}
 use Rattle.com_recv.specs.declared.lists.Held.{Held}
 use Rattle.com_recv.specs.Incoming.{is_held_on, without_held, with_held}
-use Rattle.com_recv.specs.Receiving.{Next, count, give}
+use Rattle.com_recv.specs.Receiving.{Next, give}
 use Rattle.com_recv.proofs.Members.{Among, among_filter, filter_among, among_any}
 
 -- the portion that is given

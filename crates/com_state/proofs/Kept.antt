@@ -1,6 +1,6 @@
 -- What each part of a step keeps.
 use Rattle.std.proofs.Common.{◌≡◌, ℕ, ◌+◌, ◌≤◌, zero, suc, Bool, true, false, Some, None, Option, List, [], ◌∷◌, ◌++◌, length, refl, sym, ap, ◌∙◌, inl, inr, arith, append_assoc}
-use Rattle.std.specs.Prelude.{◌⊎◌, ◌==◌, map, option_map, slice_get, unwrap_or, if◌then◌else◌}
+use Rattle.std.specs.Prelude.{◌⊎◌, map, option_map, slice_get, unwrap_or, if◌then◌else◌}
 use Rattle.std.specs.List.{enumerate_from}
 use Rattle.std.proofs.lemmas.Bool.{cases_Bool}
 use Rattle.std.proofs.lemmas.List.{append-nil}
@@ -20,8 +20,8 @@ use Rattle.com_recv.specs.Receiving.{Next, next_waiting}
 use Rattle.com_send.specs.declared.destination.Destination.{Destination}
 use Rattle.com_send.specs.Outgoing.{DestinationState, Outgoing, drop_unit}
 use Rattle.com_send.specs.Found.{Found, destination_with, find_destinations, is_among, at_each}
-use Rattle.com_send.specs.Sending.{deliver, serve_part, serve, sent_text, send_found, send, is_nothing}
-use Rattle.com_send.specs.Switching.{switch, is_key_of_each, switch_found, switch_output}
+use Rattle.com_send.specs.Sending.{deliver, serve_part, serve, sent_text, send_found, is_nothing}
+use Rattle.com_send.specs.Switching.{switch, is_key_of_each, switch_found}
 use Rattle.com_state.specs.State.{State, destinations_of}
 use Rattle.com_state.specs.Switches.{is_key, switch_leaves, switch_terminal, switch_input}
 use Rattle.com_state.specs.Wholeness.{IsPrefixOf}

@@ -20,7 +20,6 @@ mod Stays
 mod StepCases
 mod Stepped
 mod Taken
-mod Verbs
 mod WorkedInputs
 mod WorkedNets
 mod WorkedReceives
@@ -28,4 +27,5 @@ mod WorkedSends
 mod WorkedUnits
 pub mod Portions
 pub mod Runs
+pub mod Verbs
 pub mod Whole

@@ -16,7 +16,6 @@ use Rattle.com_events.specs.declared.call.Party.TheVariants as party
 use Rattle.com_events.specs.declared.call.Call.TheVariants as made
 use Rattle.com_events.specs.declared.reply.Reply.{Reply}
 use Rattle.com_events.specs.declared.reply.Reply.TheVariants.{Started, Given, Arrived}
-use Rattle.com_net.specs.Numbers.{unit_number, terminal_number}
 use Rattle.com_state.proofs.Frames.{option_cases, next_if-Some}
 use Rattle.com_state.specs.State.{State, unit_mode}
 use Rattle.com_state.specs.Answers.{is_ready}

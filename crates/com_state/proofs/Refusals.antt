@@ -1,6 +1,6 @@
 -- What a refused call writes.
 use Rattle.std.proofs.Common.{◌≡◌, ℕ, ◌+◌, ◌-◌, ◌*◌, ◌≤◌, Bool, true, false, ◌&&◌, Some, None, Option, List, [], ◌∷◌, ◌++◌, length, take, drop, refl, sym, ap, ◌∙◌, arith, inl, inr, subst, length-append, append_assoc}
-use Rattle.std.specs.Prelude.{◌||◌, not, is_none, min, IsTrue, if◌then◌else◌, codes, option_map, unwrap_or, slice_get, slice_range}
+use Rattle.std.specs.Prelude.{◌||◌, is_none, min, IsTrue, if◌then◌else◌, codes, option_map, slice_get, slice_range}
 use Rattle.std.specs.List.{fold, list_any, enumerate_from}
 use Rattle.std.specs.Str.{bytes_eq}
 use Rattle.std.proofs.lemmas.Bool.{cases_Bool, false≢true}
@@ -25,7 +25,6 @@ use Rattle.com_events.specs.declared.call.Call.TheVariants as made
 use Rattle.com_events.specs.declared.reply.Reply.{Reply}
 use Rattle.com_events.specs.declared.reply.Reply.TheVariants.{Refused, AreaIn, AreaOut}
 use Rattle.com_events.specs.Calls.{IsWellFormed}
-use Rattle.com_net.specs.Numbers.{unit_number, terminal_number}
 use Rattle.com_state.specs.Laws.{is_refusal, Tells, with_status_alone, ChangesStatusAlone}
 use Rattle.com_state.proofs.Frames.{option_cases, next_if-Some}
 use Rattle.com_state.specs.State.{State, destinations_of, unit_mode}

@@ -1,5 +1,5 @@
 -- A step is that of a unit or of a terminal.
-use Rattle.std.proofs.Common.{◌≡◌, ℕ, List, Some, None, Option, inl, inr}
+use Rattle.std.proofs.Common.{◌≡◌, ℕ, List, Some, inl, inr}
 use Rattle.std.proofs.lemmas.Option.{none-some}
 use Rattle.com_events.specs.declared.call.Party.TheVariants as party
 use Rattle.com_events.specs.declared.call.Call.{Call}

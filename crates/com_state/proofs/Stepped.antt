@@ -14,7 +14,6 @@ use Rattle.com_events.specs.declared.call.Call.{Call}
 use Rattle.com_events.specs.declared.call.Call.TheVariants as made
 use Rattle.com_events.specs.declared.reply.Reply.{Reply}
 use Rattle.com_events.specs.declared.reply.Reply.TheVariants.{Started, AreaIn}
-use Rattle.com_net.specs.Numbers.{unit_number, terminal_number}
 use Rattle.com_state.specs.Laws.{Keeps}
 use Rattle.com_state.proofs.Frames.{option_cases, next_if-Some, same_queues, queues_unit_mode, queues_terminal_mode, queues_verb, queues_arrival}
 use Rattle.com_state.proofs.Kept.{kept_same, kept_chain, kept_receive, kept_send, kept_leaf_flags, kept_switch_output, unchanged_queues, still_dropped, switched_outgoing}

@@ -17,7 +17,7 @@ use Rattle.com_state.proofs.Arriving.{quiet_kept, come_kept, stop_kept}
 use Rattle.com_state.proofs.Giving.{give_kept}
 use Rattle.com_state.specs.State.{State, opening}
 use Rattle.com_state.specs.Steps.{step}
-use Rattle.com_recv.specs.Receiving.{count, give}
+use Rattle.com_recv.specs.Receiving.{give}
 
 -- what there is comes behind
 abbrev added : {X : Type 0} → List X → Option X → List X

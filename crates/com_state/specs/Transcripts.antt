@@ -1,5 +1,5 @@
 -- What a terminal is sent, as bytes.
-use Rattle.std.specs.Prelude.{ℕ, List, [], Option, Some, None, unwrap_or, option_and_then, option_map}
+use Rattle.std.specs.Prelude.{ℕ, List, [], Option, unwrap_or, option_and_then, option_map}
 use Rattle.std.specs.List.{flat_map}
 use Rattle.com_msg.specs.declared.sending.OutMessage.{OutMessage}
 use Rattle.com_msg.specs.Rendering.{rendered_message}
