@@ -1,6 +1,6 @@
 -- The node that an area designates, by its path.
-use Rattle.std.proofs.Common.{◌≡◌, ℕ, ◌+◌, ◌-◌, ◌≤◌, Bool, true, false, List, [], ◌∷◌, length, take, None, refl, sym, ap, ◌∙◌, arith, inl, inr, length-append}
-use Rattle.std.specs.Prelude.{option_map, IsTrue}
+use Rattle.std.proofs.Common.{◌≡◌, ℕ, ◌+◌, ◌-◌, ◌≤◌, Bool, true, false, List, [], ◌∷◌, length, take, Some, None, refl, sym, ap, subst, ◌∙◌, arith, inl, inr, length-append}
+use Rattle.std.specs.Prelude.{◌↔◌, Option, option_map, IsTrue}
 use Rattle.std.specs.Cmp.Lexicographic.{pointwise}
 use Rattle.std.specs.List.{All, AllByRecursion, list_all, position, position_from}
 use Rattle.std.specs.Str.{bytes_eq}
@@ -13,12 +13,15 @@ use Rattle.std.proofs.lemmas.List.Elements.{All-push, All-take}
 use Rattle.com_text.specs.Name.{IsName, is_name}
 use Rattle.com_cd.specs.Designation.{path_fields, Designates}
 use Rattle.com_cd.proofs.Paths.{only_path}
+use Rattle.std.proofs.lemmas.Option.{none-some}
 use Rattle.com_tree.specs.declared.tree.TreeRow.{TreeRow}
+use Rattle.com_tree.specs.declared.tree.Node.{Node}
 use Rattle.com_tree.specs.Written.{IsWritten}
 use Rattle.com_tree.specs.Places.{path_behind, paths_behind, paths, node_with}
 use Rattle.com_tree.proofs.Building.{both}
 use Rattle.com_tree.proofs.Walks.{IsRest, IsNext, step_of, all_left, first_at_top}
-use Rattle.com_recv.specs.Queued.{designated}
+use Rattle.com_recv.specs.Incoming.{designated}
+use Rattle.com_recv.proofs.Members.{Among}
 
 -- a path of one to four names
 abbrev IsPath : List (List ℕ) → Type 0
@@ -109,3 +112,42 @@ designated_none tree area h none =
     let nowhere : position (λ other. bytes_eq (take 48 area) (path_fields other)) (paths tree) ≡ None =
     position_from-zero (λ other. bytes_eq (take 48 area) (path_fields other)) (paths tree) ∙ none_from (λ other. bytes_eq (take 48 area) (path_fields other)) 0 (paths tree) failing in
     rw nowhere refl
+
+-- what stands at the place that is found, passes
+passes_at : {X : Type 0} (p : X → Bool) → (at place : ℕ) (xs : List X) → position_from p at xs ≡ Some place → (x : X) × (p x ≡ true) × Among x xs
+passes_at p at place [] found = absurd (none-some place found)
+passes_at p at place (x ∷ xs) found = elim (cases_Bool (p x)) [
+  | inl passes ↦ (x, passes, inl refl)
+  | inr fails ↦ let later = passes_at p (at + 1) place xs (rw fails at found) in (later.0, later.1, inr later.2)
+]
+
+-- what holds of all holds of what stands among them
+of_all : {X : Type 0} (P : X → Type 0) → (x : X) (xs : List X) → AllByRecursion P xs → Among x xs → P x
+of_all P x [] all among = absurd among
+of_all P x (y ∷ xs) all (inl e) = subst P (sym e) all.0
+of_all P x (y ∷ xs) all (inr there) = of_all P x xs all.1 there
+
+-- a node that is designated has a place
+place_of : (o : Option ℕ) (node : Node) → option_map {U = Node} (λ place. record { row = place }) o ≡ Some node → (place : ℕ) × (o ≡ Some place)
+place_of None node e = absurd (none-some node e)
+place_of (Some place) node e = (place, refl)
+
+-- an area that designates a node designates a path
+path_designated : (tree : List TreeRow) (area : List ℕ) (node : Node) → IsWritten tree → designated tree area ≡ Some node → (path : List (List ℕ)) × Designates area path
+path_designated tree area node written is =
+    let test = λ (path : List (List ℕ)). bytes_eq (take 48 area) (path_fields path) in
+    let place = place_of (position test (paths tree)) node is in
+    let found = passes_at test 0 place.0 (paths tree) (sym (position_from-zero test (paths tree)) ∙ place.1) in
+    let valid = of_all IsPath found.0 (paths tree) (valid_paths tree written) found.2 in
+    let fields : take 48 area ≡ path_fields found.0 = grind (arith, bytes_eq-Decides (take 48 area) (path_fields found.0), found.1) in
+    (found.0, record { some = valid.0; few = valid.1; names = valid.2; fields = fields })
+
+-- an area designates a node exactly where it designates a path, and the node has this path
+pub by_its_path : (tree : List TreeRow) (area : List ℕ) (node : Node) → IsWritten tree
+    → (designated tree area ≡ Some node) ↔ ((path : List (List ℕ)) × Designates area path × (node_with tree path ≡ Some node))
+by_its_path tree area node written = (
+  λ is.
+      let path = path_designated tree area node written is in
+      (path.0, path.1, designated_path tree area path.0 written path.1 ∙ is),
+  λ path. sym (designated_path tree area path.0 written path.1) ∙ path.2,
+)

@@ -1,3 +1,4 @@
+mod Awaited
 mod Choosing
 mod Designating
 mod Fields
@@ -5,3 +6,4 @@ mod Handing
 mod Places
 mod Receiving
 mod Taking
+pub mod Members

@@ -3,8 +3,7 @@ use Rattle.std.proofs.Common.{◌≡◌, ◌≢◌, ℕ, zero, suc, ◌+◌, ◌
 use Rattle.std.specs.Prelude.{Option, replicate, slice_get, option_and_then, option_map, is_some, ◌==◌}
 use Rattle.std.specs.Option.{option_or}
 use mathlib.Core.Bool.{cond}
-use Rattle.std.proofs.lemmas.List.Elements.{All-push}
-use Rattle.std.specs.List.{All, find, position, position_or_len, list_any, range_with_len}
+use Rattle.std.specs.List.{find, position, position_or_len, list_any, range_with_len}
 use Rattle.std.proofs.lemmas.Bool.{cases_Bool, false≢true}
 use Rattle.std.proofs.lemmas.Bool.Decides.{nat_tests}
 use Rattle.std.proofs.lemmas.Option.{none-some, same_Some, slice_get_past, slice_get-get_or, get_or_from_slice_get}
@@ -12,7 +11,7 @@ use Rattle.std.proofs.lemmas.List.{length-set, get_or-set_same, get_or-set_other
 use Rattle.std.proofs.lemmas.List.Folds.{find_at, find-append}
 use Rattle.com_recv.specs.declared.lists.Waiting.{Waiting}
 use Rattle.com_recv.specs.declared.lists.Held.{Held}
-use Rattle.com_recv.specs.Queued.{first_number, is_held_on, held_on}
+use Rattle.com_recv.specs.Incoming.{first_number, is_on, is_held_on, held_on}
 
 -- what is found is what stands at the place of the first
 pub found_at_place : {X : Type 0} (p : X → Bool) → (xs : List X) → option_and_then (slice_get xs) (position p xs) ≡ find p xs
@@ -40,7 +39,7 @@ one_more leaf past within =
     let same : past - leaf ≡ suc (past - (leaf + 1)) = omega (arith, within) in
     rw same refl
 
-within_some : {X : Type 0} → (xs : List X) (i : ℕ) → i < length xs → is_some (slice_get xs i) ≡ true
+pub within_some : {X : Type 0} → (xs : List X) (i : ℕ) → i < length xs → is_some (slice_get xs i) ≡ true
 within_some [] i within = absurd (omega (arith, within))
 within_some (x ∷ xs) zero within = refl
 within_some (x ∷ xs) (suc i) within = within_some xs i (omega (arith, within))
@@ -92,14 +91,14 @@ twice : (o : Option Waiting) → option_map (λ message. message.arrival) (optio
 twice None = refl
 twice (Some w) = refl
 
-number_of_first : (waiting : List Waiting) (leaf : ℕ) → first_number waiting leaf ≡ option_map (λ w. w.message.arrival) (find (λ w. w.leaf == leaf) waiting)
-number_of_first waiting leaf = twice (find (λ w. w.leaf == leaf) waiting)
+number_of_first : (waiting : List Waiting) (leaf : ℕ) → first_number waiting leaf ≡ option_map (λ w. w.message.arrival) (find (is_on leaf) waiting)
+number_of_first waiting leaf = twice (find (is_on leaf) waiting)
 
 -- the first message on a leaf, when one more has come
 first_number_more : (waiting : List Waiting) (w : Waiting) (leaf : ℕ) → first_number (waiting ++ w ∷ []) leaf ≡ option_or (first_number waiting leaf) (first_number (w ∷ []) leaf)
 first_number_more waiting w leaf =
-    number_of_first (waiting ++ w ∷ []) leaf ∙ (ap (option_map (λ m. m.message.arrival)) (find-append (λ m. m.leaf == leaf) waiting (w ∷ []))
-    ∙ (mapped (λ m. m.message.arrival) (find (λ m. m.leaf == leaf) waiting) (find (λ m. m.leaf == leaf) (w ∷ []))
+    number_of_first (waiting ++ w ∷ []) leaf ∙ (ap (option_map (λ m. m.message.arrival)) (find-append (is_on leaf) waiting (w ∷ []))
+    ∙ (mapped (λ m. m.message.arrival) (find (is_on leaf) waiting) (find (is_on leaf) (w ∷ []))
     ∙ rw (number_of_first waiting leaf, number_of_first (w ∷ []) leaf) refl))
 
 or_first : (o p : Option ℕ) → is_some o ≡ true → option_or o p ≡ o
@@ -115,39 +114,39 @@ abbrev pub AreHeads : List (Option ℕ) → List Waiting → Type 0
 AreHeads heads waiting = (leaf : ℕ) → leaf < 64 → slice_get heads leaf ≡ Some (first_number waiting leaf)
 
 -- a message on another leaf changes nothing
-elsewhere : (waiting : List Waiting) (w : Waiting) (leaf : ℕ) → (w.leaf == leaf) ≡ false → first_number (waiting ++ w ∷ []) leaf ≡ first_number waiting leaf
+elsewhere : (waiting : List Waiting) (w : Waiting) (leaf : ℕ) → (w.leaf.number == leaf) ≡ false → first_number (waiting ++ w ∷ []) leaf ≡ first_number waiting leaf
 elsewhere waiting w leaf other =
     let none : first_number (w ∷ []) leaf ≡ None = rw other refl in
     first_number_more waiting w leaf ∙ (rw none refl ∙ or_none (first_number waiting leaf))
 
-same_leaf : (w : Waiting) (leaf : ℕ) → (w.leaf == leaf) ≡ true → w.leaf ≡ leaf
+same_leaf : (w : Waiting) (leaf : ℕ) → (w.leaf.number == leaf) ≡ true → w.leaf.number ≡ leaf
 same_leaf w leaf h = grind (arith, nat_tests, h)
 
 head_here : (heads : List (Option ℕ)) (waiting : List Waiting) (leaf : ℕ) → AreHeads heads waiting → leaf < 64 → get_or heads leaf None ≡ first_number waiting leaf
 head_here heads waiting leaf h small = get_or_from_slice_get heads leaf (first_number waiting leaf) None (h leaf small)
 
 -- the message is the first on its leaf where there was none
-pub first_come : (heads : List (Option ℕ)) (waiting : List Waiting) (w : Waiting) → length heads ≡ 64 → w.leaf < 64 → AreHeads heads waiting → get_or heads w.leaf None ≡ None
-    → AreHeads (set heads w.leaf (Some w.message.arrival)) (waiting ++ w ∷ [])
+pub first_come : (heads : List (Option ℕ)) (waiting : List Waiting) (w : Waiting) → length heads ≡ 64 → w.leaf.number < 64 → AreHeads heads waiting → get_or heads w.leaf.number None ≡ None
+    → AreHeads (set heads w.leaf.number (Some w.message.arrival)) (waiting ++ w ∷ [])
 first_come heads waiting w long within h none = λ leaf small.
-    let written = set heads w.leaf (Some w.message.arrival) in
-    let there : slice_get written leaf ≡ Some (get_or written leaf None) = slice_get-get_or written leaf None (omega (arith, small, length-set heads w.leaf (Some w.message.arrival), long)) in
-    elim (cases_Bool (w.leaf == leaf)) [
+    let written = set heads w.leaf.number (Some w.message.arrival) in
+    let there : slice_get written leaf ≡ Some (get_or written leaf None) = slice_get-get_or written leaf None (omega (arith, small, length-set heads w.leaf.number (Some w.message.arrival), long)) in
+    elim (cases_Bool (w.leaf.number == leaf)) [
       | inl same ↦
           let is = same_leaf w leaf same in
-          let here : get_or written leaf None ≡ Some w.message.arrival = rw (← is) (get_or-set_same heads w.leaf (Some w.message.arrival) None (omega (arith, within, long))) in
+          let here : get_or written leaf None ≡ Some w.message.arrival = rw (← is) (get_or-set_same heads w.leaf.number (Some w.message.arrival) None (omega (arith, within, long))) in
           let before : first_number waiting leaf ≡ None = sym (head_here heads waiting leaf h small) ∙ rw is at none in
           let one : first_number (w ∷ []) leaf ≡ Some w.message.arrival = rw same refl in
           there ∙ ap Some (here ∙ sym (first_number_more waiting w leaf ∙ rw (before, one) refl))
       | inr other ↦
-          let apart : leaf ≢ w.leaf = grind (arith, nat_tests, other) in
-          let kept : get_or written leaf None ≡ get_or heads leaf None = get_or-set_other heads w.leaf leaf (Some w.message.arrival) None apart in
+          let apart : leaf ≢ w.leaf.number = grind (arith, nat_tests, other) in
+          let kept : get_or written leaf None ≡ get_or heads leaf None = get_or-set_other heads w.leaf.number leaf (Some w.message.arrival) None apart in
           there ∙ ap Some (kept ∙ (head_here heads waiting leaf h small ∙ sym (elsewhere waiting w leaf other)))
     ]
 
 -- it is not where there was one
-pub later_come : (heads : List (Option ℕ)) (waiting : List Waiting) (w : Waiting) → AreHeads heads waiting → w.leaf < 64 → is_some (get_or heads w.leaf None) ≡ true → AreHeads heads (waiting ++ w ∷ [])
-later_come heads waiting w h within some = λ leaf small. elim (cases_Bool (w.leaf == leaf)) [
+pub later_come : (heads : List (Option ℕ)) (waiting : List Waiting) (w : Waiting) → AreHeads heads waiting → w.leaf.number < 64 → is_some (get_or heads w.leaf.number None) ≡ true → AreHeads heads (waiting ++ w ∷ [])
+later_come heads waiting w h within some = λ leaf small. elim (cases_Bool (w.leaf.number == leaf)) [
   | inl same ↦
       let is = same_leaf w leaf same in
       let found : is_some (first_number waiting leaf) ≡ true = ap is_some (sym (head_here heads waiting leaf h small)) ∙ rw is at some in
@@ -168,7 +167,8 @@ pub no_number : (o : Option ℕ) → is_some o ≡ false → o ≡ None
 no_number None none = refl
 no_number (Some x) none = absurd (false≢true (sym none))
 
--- what holds of each element holds after a push that may have been refused
-pub all_pushed : {X : Type 0} (P : X → Type 0) → (xs ys : List X) (x : X) (done : Bool) → ys ≡ cond done (xs ++ x ∷ []) xs → All P xs → P x → All P ys
-all_pushed P xs ys x true is all one = rw is (All-push P xs x all one)
-all_pushed P xs ys x false is all one = rw is all
+-- what holds of a list, and of it with one more at the end, holds after a push that may have been
+-- refused
+pub pushed : {X : Type 0} (P : List X → Type 0) → (xs ys : List X) (x : X) (done : Bool) → ys ≡ cond done (xs ++ x ∷ []) xs → P xs → P (xs ++ x ∷ []) → P ys
+pushed P xs ys x true is before after = rw is after
+pushed P xs ys x false is before after = rw is before

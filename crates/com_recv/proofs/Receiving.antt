@@ -15,7 +15,7 @@ use Rattle.com_tree.specs.Places.{first_leaf}
 use Rattle.com_tree.specs.NextLeaf.{choice, choice_by, first_found, oldest, is_later, children}
 use Rattle.com_recv.specs.declared.lists.Waiting.{Waiting}
 use Rattle.com_recv.specs.declared.lists.Held.{Held}
-use Rattle.com_recv.specs.Queued.{Queued, first_number, first_on, chosen_leaf, without_first, held_under}
+use Rattle.com_recv.specs.Incoming.{Incoming, first_number, first_on, chosen_leaf, without_first, held_under}
 use Rattle.com_recv.specs.Receiving.{next_of_held, next_waiting, has_data}
 
 -- what is chosen has a message
@@ -87,28 +87,28 @@ chosen_has tree waiting node leaf is =
     sym (some_message (λ (m : Message). m.arrival) (first_on waiting leaf))
     ∙ node_has 4 tree (first_number waiting) node leaf (sym (number_at (choice 4 tree (first_number waiting) node)) ∙ is)
 
-next_of_chosen : (tree : List TreeRow) (Q : Queued) (node : Node) (o : Option ℕ) → chosen_leaf tree Q.waiting node ≡ o → is_some (next_waiting tree Q node) ≡ is_some o
-next_of_chosen tree Q node None is = rw is refl
-next_of_chosen tree Q node (Some leaf) is =
-    rw is (some_message (λ (message : Message). record { leaf = leaf; rest = message; waiting = without_first leaf Q.waiting }) (first_on Q.waiting leaf) ∙ chosen_has tree Q.waiting node leaf is)
+next_of_chosen : (tree : List TreeRow) (incoming : Incoming) (node : Node) (o : Option ℕ) → chosen_leaf tree incoming.waiting node ≡ o → is_some (next_waiting tree incoming node) ≡ is_some o
+next_of_chosen tree incoming node None is = rw is refl
+next_of_chosen tree incoming node (Some leaf) is =
+    rw is (some_message (λ (message : Message). record { leaf = leaf; rest = message; waiting = without_first leaf incoming.waiting }) (first_on incoming.waiting leaf) ∙ chosen_has tree incoming.waiting node leaf is)
 
 or_is : {X : Type 0} → (o p : Option X) → is_some o ≡ false → option_or o p ≡ p
 or_is None p none = refl
 or_is (Some x) p none = absurd (false≢true (sym none))
 
-held_next : (Q : Queued) (o : Option Held) → is_some (next_of_held Q o) ≡ is_some o
-held_next Q None = refl
-held_next Q (Some h) = refl
+held_next : (incoming : Incoming) (o : Option Held) → is_some (next_of_held incoming o) ≡ is_some o
+held_next incoming None = refl
+held_next incoming (Some h) = refl
 
 -- where nothing is held, there is data exactly where a message waits
-pub data_by_choice : (tree : List TreeRow) (Q : Queued) (unit : ℕ) (node : Node) → is_some (held_under tree Q.held unit node) ≡ false → has_data tree Q unit node ≡ is_some (chosen_leaf tree Q.waiting node)
-data_by_choice tree Q unit node none =
-    ap is_some (or_is (next_of_held Q (held_under tree Q.held unit node)) (next_waiting tree Q node) (held_next Q (held_under tree Q.held unit node) ∙ none))
-    ∙ next_of_chosen tree Q node (chosen_leaf tree Q.waiting node) refl
+pub data_by_choice : (tree : List TreeRow) (incoming : Incoming) (unit : ℕ) (node : Node) → is_some (held_under tree incoming.held unit node) ≡ false → has_data tree incoming unit node ≡ is_some (chosen_leaf tree incoming.waiting node)
+data_by_choice tree incoming unit node none =
+    ap is_some (or_is (next_of_held incoming (held_under tree incoming.held unit node)) (next_waiting tree incoming node) (held_next incoming (held_under tree incoming.held unit node) ∙ none))
+    ∙ next_of_chosen tree incoming node (chosen_leaf tree incoming.waiting node) refl
 
 -- where something is held, there is data
-pub data_by_held : (tree : List TreeRow) (Q : Queued) (unit : ℕ) (node : Node) (h : Held) → Some h ≡ held_under tree Q.held unit node → has_data tree Q unit node ≡ true
-data_by_held tree Q unit node h is = rw (← is) refl
+pub data_by_held : (tree : List TreeRow) (incoming : Incoming) (unit : ℕ) (node : Node) (h : Held) → Some h ≡ held_under tree incoming.held unit node → has_data tree incoming unit node ≡ true
+data_by_held tree incoming unit node h is = rw (← is) refl
 
 pub none_then : {X : Type 0} {Y : Type 0} (f : X → Option Y) → (o : Option X) → is_some o ≡ false → is_some (option_and_then f o) ≡ false
 none_then f None none = refl

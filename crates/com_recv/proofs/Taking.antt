@@ -6,12 +6,12 @@ use Rattle.std.proofs.lemmas.Option.{same_Some, get_or_from_slice_get}
 use Rattle.std.proofs.lemmas.List.{get_or-set_same}
 use Rattle.std.specs.List.{remove, filter}
 use Rattle.com_msg.specs.declared.message.Message.{Message}
-use Rattle.com_msg.specs.declared.rest.Kind.{Kind}
 use Rattle.com_msg.specs.declared.rest.Portion.{Portion}
 use Rattle.com_msg.specs.Portion.{take_portion}
 use Rattle.com_tree.specs.declared.tree.TreeRow.{TreeRow}
+use Rattle.com_recv.specs.declared.giving.Request.{Request}
 use Rattle.com_recv.specs.declared.lists.Held.{Held}
-use Rattle.com_recv.specs.Queued.{is_held_on, without_held, with_held, holding}
+use Rattle.com_recv.specs.Incoming.{is_held_on, without_held, with_held, holding}
 use Rattle.com_recv.specs.Areas.{given_area}
 use Rattle.com_recv.specs.Giving.{Gives}
 
@@ -32,17 +32,18 @@ filter_remove p (y ∷ xs) zero x is fails =
 filter_remove p (y ∷ xs) (suc at) x is fails = rw (filter_remove p xs at x is fails) refl
 
 -- a portion is told of by the message that it was taken from
-pub gives : (tree : List TreeRow) (unit leaf : ℕ) (message rest : Message) (portion : Portion) (held before : List Held) (area : List ℕ) (kind : Kind) (size : ℕ) (told : List ℕ) (left : List Held)
-    → (portion, rest) ≡ take_portion kind size message → told ≡ given_area tree leaf rest portion area
-    → left ≡ holding unit leaf rest before → without_held unit leaf before ≡ without_held unit leaf held
-    → Gives tree unit leaf message held area kind size told left portion.text
-gives tree unit leaf message rest portion held before area kind size told left taken shown kept others =
-    let same : rest ≡ (take_portion kind size message).1 = ap (λ t. t.1) taken in
-    let given : portion ≡ (take_portion kind size message).0 = ap (λ t. t.0) taken in
+pub gives : (tree : List TreeRow) (request : Request) (leaf : ℕ) (message rest : Message) (portion : Portion) (held before : List Held) (area told : List ℕ) (left : List Held)
+    → (portion, rest) ≡ take_portion request.kind request.size message → told ≡ given_area tree leaf rest portion area
+    → left ≡ holding request.unit leaf rest before → without_held request.unit leaf before ≡ without_held request.unit leaf held
+    → Gives tree request leaf message held area told left portion.text
+gives tree request leaf message rest portion held before area told left taken shown kept others =
+    let all = take_portion request.kind request.size message in
+    let same : rest ≡ all.1 = ap (λ t. t.1) taken in
+    let given : portion ≡ all.0 = ap (λ t. t.0) taken in
     record {
       given = ap (λ p. p.text) given;
       shown = shown ∙ (ap (λ r. given_area tree leaf r portion area) same ∙ ap (λ p. given_area tree leaf message p area) given);
-      kept = kept ∙ (ap (λ r. holding unit leaf r before) same ∙ ap (λ o. with_held unit leaf (take_portion kind size message).1 (take_portion kind size message).1.segments o) others);
+      kept = kept ∙ (ap (λ r. holding request.unit leaf r before) same ∙ ap (λ o. with_held request.unit leaf all.1 all.1.segments o) others);
     }
 
 -- what is taken out of a place is what was written there
@@ -57,5 +58,5 @@ same_number : (n : ℕ) → (n == n) ≡ true
 same_number n = grind (arith, nat_tests)
 
 -- what stands at a place is held by its unit from its leaf
-pub passes : (h : Held) → is_held_on h.unit h.leaf h ≡ true
-passes h = rw (same_number h.unit, same_number h.leaf) refl
+pub passes : (h : Held) → is_held_on h.unit h.leaf.number h ≡ true
+passes h = rw (same_number h.unit, same_number h.leaf.number) refl

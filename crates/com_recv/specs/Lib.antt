@@ -1,4 +1,4 @@
-pub mod Queued
+pub mod Incoming
 pub mod Areas
 pub mod Receiving
 pub mod Giving

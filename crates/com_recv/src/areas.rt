@@ -1,7 +1,6 @@
 //! What RECEIVE and ACCEPT MESSAGE COUNT write into an area.
 ghost use Rattle.std.specs.Prelude.{◌≡◌, ◌<◌, ◌≤◌, ◌++◌, length, drop};
 ghost use Rattle.com_text.specs.Text.{IsText};
-ghost use Rattle.com_text.specs.Digits.{in_digits};
 ghost use Rattle.com_msg.specs.Portion.{IsEndKey};
 ghost use Rattle.com_cd.specs.Designation.{path_fields};
 ghost use Rattle.com_cd.specs.declared.status.Status.TheVariants.{S20};
@@ -9,7 +8,7 @@ ghost use Rattle.com_recv.specs.Areas.{with_status, with_origin, with_text, no_d
 
 use com_cd::{InArea, InField, Status};
 use com_msg::{Portion, Rest};
-use com_text::{FIELD_LENGTH, Name, NamePath, digits};
+use com_text::{FIELD_LENGTH, Name, NamePath, digits_of};
 
 const SPACES: [u8; FIELD_LENGTH] = [b' '; FIELD_LENGTH];
 
@@ -24,7 +23,7 @@ pub fn given_area(path: &NamePath, rest: &Rest, portion: &Portion, area: InArea)
 {
     let area = with_names(path, area);
     let area = with_origin(rest, area);
-    let length = four_digits(portion.text.as_bytes().len());
+    let length = digits_of::<4>(portion.text.as_bytes().len() as u64);
     with_portion(&length, &[portion.end_key], area)
 }
 
@@ -47,8 +46,7 @@ pub fn refused_area(mut area: InArea) -> InArea
 pub fn counted_area(count: usize, mut area: InArea) -> InArea
     ensures { result ≡ counted_area count area }
 {
-    let mut number = [b'0'; 6];
-    digits(count.min(MAX_COUNT) as u64, &mut number);
+    let number = digits_of::<6>(count.min(MAX_COUNT) as u64);
     area.set(InField::Count, &number);
     area.set(InField::Status, &Status::S00.bytes());
     area
@@ -97,14 +95,4 @@ fn with_portion(length: &[u8; 4], end_key: &[u8; 1], mut area: InArea) -> InArea
     area.set(InField::EndKey, end_key);
     area.set(InField::Status, &Status::S00.bytes());
     area
-}
-
-fn four_digits(n: usize) -> [u8; 4]
-    requires { n < 10000 }
-    ensures digits { result ≡ in_digits n 4 }
-    ensures text { IsText result }
-{
-    let mut bytes = [b'0'; 4];
-    digits(n as u64, &mut bytes);
-    bytes
 }

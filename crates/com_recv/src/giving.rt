@@ -5,9 +5,8 @@ ghost use Rattle.com_msg.specs.Portion.{IsEndKey};
 ghost use Rattle.com_tree.specs.Written.{leaf_count};
 ghost use Rattle.com_recv.specs.declared.lists.Held.{Held as HeldRow};
 ghost use Rattle.com_recv.specs.declared.lists.Waiting.{Waiting as WaitingRow};
-ghost use Rattle.com_recv.specs.Queued.{IsOnLeaf};
 ghost use Rattle.com_recv.specs.Areas.{given_area};
-ghost use Rattle.com_recv.specs.Giving.{GivesHeld, GivesWaiting};
+ghost use Rattle.com_recv.specs.Giving.{IsOnTree, Gives};
 
 use crate::areas::given_area;
 use crate::lists::{Held, Waiting, hold};
@@ -17,66 +16,75 @@ use com_text::Text;
 use com_tree::{Leaf, Tree};
 use std::alloc::AllocError;
 
-/// Gives a portion of the rest at a place. What is left is held by the same unit.
+/// What a RECEIVE of a unit asks for.
+#[derive(Clone, Copy, Debug)]
+pub struct Request {
+    pub unit: u32,
+    pub kind: Kind,
+    /// How many characters at most, from 1 to 2,000.
+    pub size: u32,
+}
+
+/// Gives a portion of the rest at a place, which the unit holds. It goes on to hold what is left.
 pub fn give_held(
     tree: &Tree,
     held: &mut Vec<Held>,
     at: usize,
     area: &mut InArea,
-    kind: Kind,
-    size: u32,
+    request: Request,
 ) -> Result<Text, AllocError>
     requires at { at < length held.old.items }
+    requires owner { (h : HeldRow) → slice_get held.old.items at ≡ Some h
+        → h.unit ≡ request.unit }
     requires leaf { (h : HeldRow) → slice_get held.old.items at ≡ Some h
-        → IsOnLeaf (leaf_count tree.now) h.leaf h.rest }
-    requires size { (1 ≤ size) × (size ≤ 2000) }
+        → IsOnTree tree.now h.leaf.number h.rest }
+    requires size { (1 ≤ request.size) × (request.size ≤ 2000) }
     ensures given { (h : HeldRow) → slice_get held.old.items at ≡ Some h → IfOk result
-        (GivesHeld tree.now h held.old.items area.old kind size area.new held.new.items) }
+        (Gives tree.now request h.leaf.number h.rest held.old.items area.old area.new
+        held.new.items) }
     ensures err { OnErr result ((held.new.items ≡ held.old.items) × (area.new ≡ area.old)) }
 {
-    let portion = held[at].rest.take(kind, size)?;
+    let portion = held[at].rest.take(request.kind, request.size)?;
     let Held { unit, leaf, rest } = held.remove(at);
     *area = area_of(tree, leaf, &rest, &portion, *area);
     hold(held, unit, leaf, rest);
     Ok(portion.text)
 }
 
-/// Gives a portion of the message at a place, which leaves the queue. What is left is held by the
-/// unit.
+/// Gives a portion of the message at a place, which leaves the queue. The unit holds what is left.
 pub fn give_waiting(
     tree: &Tree,
     waiting: &mut Vec<Waiting>,
     at: usize,
     held: &mut Vec<Held>,
-    unit: u32,
     area: &mut InArea,
-    kind: Kind,
-    size: u32,
+    request: Request,
 ) -> Result<Text, AllocError>
     requires at { at < length waiting.old.items }
     requires leaf { (w : WaitingRow) → slice_get waiting.old.items at ≡ Some w
-        → IsOnLeaf (leaf_count tree.now) w.leaf w.message }
-    requires size { (1 ≤ size) × (size ≤ 2000) }
+        → IsOnTree tree.now w.leaf.number w.message }
+    requires size { (1 ≤ request.size) × (request.size ≤ 2000) }
     ensures given { (w : WaitingRow) → slice_get waiting.old.items at ≡ Some w → IfOk result
-        (GivesWaiting tree.now w held.old.items unit area.old kind size area.new held.new.items) }
+        (Gives tree.now request w.leaf.number w.message held.old.items area.old area.new
+        held.new.items) }
     ensures taken { IfOk result (λ text. waiting.new.items ≡ remove waiting.old.items at) }
     ensures err { OnErr result ((waiting.new.items ≡ waiting.old.items)
         × (held.new.items ≡ held.old.items) × (area.new ≡ area.old)) }
 {
     held.try_reserve(1)?;
-    let portion = waiting[at].message.take(kind, size)?;
+    let portion = waiting[at].message.take(request.kind, request.size)?;
     let Waiting { leaf, message } = waiting.remove(at);
     *area = area_of(tree, leaf, &message, &portion, *area);
-    hold(held, unit, leaf, message);
+    hold(held, request.unit, leaf, message);
     Ok(portion.text)
 }
 
 /// The area that tells of a portion of a message from a leaf.
-fn area_of(tree: &Tree, leaf: u32, rest: &Rest, portion: &Portion, area: InArea) -> InArea
-    requires leaf { leaf < leaf_count tree.now }
+fn area_of(tree: &Tree, leaf: Leaf, rest: &Rest, portion: &Portion, area: InArea) -> InArea
+    requires leaf { leaf.number < leaf_count tree.now }
     requires short { length portion.now.text < 10000 }
     requires end_key { IsEndKey portion.now.end_key }
-    ensures { result ≡ given_area tree.now leaf rest.now portion.now area }
+    ensures { result ≡ given_area tree.now leaf.number rest.now portion.now area }
 {
-    given_area(&tree.path(Leaf { number: leaf }), rest, portion, area)
+    given_area(&tree.path(leaf), rest, portion, area)
 }

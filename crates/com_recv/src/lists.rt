@@ -2,16 +2,15 @@
 ghost use Rattle.std.specs.Prelude.{◌≡◌, ◌<◌, ◌≤◌, ◌-◌, ℕ, Some, IfSome, length, slice_get, option_and_then, ◌==◌, ◌&&◌, nat_le, nat_lt, count_by};
 ghost use Rattle.std.specs.List.{find, position, range_with_len, All};
 ghost use Rattle.std.specs.Vec.{vec_len, vec_capacity};
-ghost use Rattle.com_recv.specs.Queued.{first_number, is_held_on, held_on, held_in, without_held, without_unit, holding};
+ghost use Rattle.com_recv.specs.Incoming.{first_number, is_on, is_held_on, held_on, held_in, without_held, without_unit, holding};
 
 use com_msg::Rest;
-use com_tree::MAX_LEAVES;
+use com_tree::{Leaf, MAX_LEAVES};
 
 /// A message that waits on a leaf.
 #[derive(Debug, Drop)]
 pub struct Waiting {
-    /// The number of the leaf.
-    pub leaf: u32,
+    pub leaf: Leaf,
     pub message: Rest,
 }
 
@@ -19,19 +18,19 @@ pub struct Waiting {
 #[derive(Debug, Drop)]
 pub struct Held {
     pub unit: u32,
-    /// The number of the leaf that the message came from.
-    pub leaf: u32,
+    /// The leaf that the message came from.
+    pub leaf: Leaf,
     pub rest: Rest,
 }
 
 /// The arrival number of the first message on each leaf.
 pub fn heads_of(waiting: &[Waiting]) -> [Option<u64>; MAX_LEAVES as usize]
-    requires { All (λ w. w.leaf < 64) waiting.now }
-    ensures { (leaf : ℕ) → leaf < 64 → slice_get result leaf ≡ Some (first_number waiting.now leaf) }
+    requires { All (λ w. w.leaf.number < MAX_LEAVES) waiting.now }
+    ensures { (leaf : ℕ) → leaf < MAX_LEAVES → slice_get result leaf ≡ Some (first_number waiting.now leaf) }
 {
     let mut heads = [None; MAX_LEAVES as usize];
     for message in waiting {
-        let leaf = message.leaf as usize;
+        let leaf = message.leaf.number as usize;
         if heads[leaf].is_none() {
             heads[leaf] = Some(message.message.arrival());
         }
@@ -40,25 +39,26 @@ pub fn heads_of(waiting: &[Waiting]) -> [Option<u64>; MAX_LEAVES as usize]
 }
 
 /// The place of the message that came first on a leaf.
-pub fn first_on(waiting: &[Waiting], leaf: u32) -> Option<usize>
-    ensures { result ≡ position (λ w. w.leaf == leaf) waiting.now }
+pub fn first_on(waiting: &[Waiting], leaf: Leaf) -> Option<usize>
+    ensures { result ≡ position (is_on leaf.number) waiting.now }
 {
     waiting.iter().position(|message| message.leaf == leaf)
 }
 
 /// How many messages wait on the leaves from one number to before another.
 pub fn count_between(waiting: &[Waiting], first: u32, past: u32) -> usize
-    ensures { result ≡ count_by (λ w. nat_le first w.leaf && nat_lt w.leaf past) waiting.now }
+    ensures { result
+        ≡ count_by (λ w. nat_le first w.leaf.number && nat_lt w.leaf.number past) waiting.now }
 {
     waiting
         .iter()
-        .filter(|message| first <= message.leaf && message.leaf < past)
+        .filter(|message| first <= message.leaf.number && message.leaf.number < past)
         .count()
 }
 
 /// The place of what a unit holds from a leaf.
-fn held_on(held: &[Held], unit: u32, leaf: u32) -> Option<usize>
-    ensures { result ≡ position (is_held_on unit leaf) held.now }
+fn held_on(held: &[Held], unit: u32, leaf: Leaf) -> Option<usize>
+    ensures { result ≡ position (is_held_on unit leaf.number) held.now }
 {
     held.iter()
         .position(|rest| rest.unit == unit && rest.leaf == leaf)
@@ -70,8 +70,8 @@ pub fn held_between(held: &[Held], unit: u32, first: u32, past: u32) -> Option<u
         ≡ held_in held.now unit (range_with_len first (past - first)) }
     ensures within { IfSome result (λ at. at < length held.now) }
 {
-    for leaf in first..past {
-        if let Some(at) = held_on(held, unit, leaf) {
+    for number in first..past {
+        if let Some(at) = held_on(held, unit, Leaf { number }) {
             return Some(at);
         }
     }
@@ -80,9 +80,9 @@ pub fn held_between(held: &[Held], unit: u32, first: u32, past: u32) -> Option<u
 
 /// The unit holds the rest of a message from a leaf, in the place of what it held from there. A
 /// spent rest is dropped.
-pub fn hold(held: &mut Vec<Held>, unit: u32, leaf: u32, rest: Rest)
+pub fn hold(held: &mut Vec<Held>, unit: u32, leaf: Leaf, rest: Rest)
     requires room { vec_len held.old < vec_capacity held.old }
-    ensures { held.new.items ≡ holding unit leaf rest held.old.items }
+    ensures { held.new.items ≡ holding unit leaf.number rest held.old.items }
 {
     release(held, unit, leaf);
     if !rest.is_spent() {
@@ -91,8 +91,8 @@ pub fn hold(held: &mut Vec<Held>, unit: u32, leaf: u32, rest: Rest)
 }
 
 /// What a unit holds from a leaf is gone.
-fn release(held: &mut Vec<Held>, unit: u32, leaf: u32)
-    ensures held { held.new.items ≡ without_held unit leaf held.old.items }
+fn release(held: &mut Vec<Held>, unit: u32, leaf: Leaf)
+    ensures held { held.new.items ≡ without_held unit leaf.number held.old.items }
     ensures room { vec_len held.new ≤ vec_len held.old }
     ensures capacity { vec_capacity held.new ≡ vec_capacity held.old }
 {

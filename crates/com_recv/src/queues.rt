@@ -1,17 +1,19 @@
 //! The queues of a tree: what waits on its leaves, and what units hold of it.
-ghost use Rattle.std.specs.Prelude.{◌≡◌, ◌<◌, ◌≤◌, ◌++◌, ◌∷◌, [], List, length, OnOk, OnErr, IfOk, IfErr, IfSome, is_some, option_map, option_and_then, slice_get};
-ghost use Rattle.com_tree.specs.Written.{leaf_count};
-ghost use Rattle.com_recv.specs.Queued.{designated, chosen_leaf, held_under, without_unit, place_of_choice};
+ghost use Rattle.std.specs.Prelude.{◌≡◌, ◌<◌, ◌≤◌, ◌++◌, ◌∷◌, ◌||◌, [], List, length, OnOk, OnErr, IfOk, IfErr, IfSome, is_some, option_map, option_and_then, slice_get};
+ghost use Rattle.std.specs.List.{All};
+ghost use Rattle.com_tree.specs.declared.tree.TreeRow.{TreeRow as TreeNode};
+ghost use Rattle.com_tree.specs.Written.{IsWritten, leaf_count};
+ghost use Rattle.com_recv.specs.Incoming.{IsTreeOf, nothing, designated, chosen_leaf, held_under, has_message, has_rest, without_unit, place_of_choice};
 ghost use Rattle.com_recv.specs.Receiving.{receive, has_data, count};
 
 use crate::areas::{counted_area, no_data_area, refused_area};
-use crate::giving::{give_held, give_waiting};
+use crate::giving::{Request, give_held, give_waiting};
 use crate::lists::{Held, Waiting, count_between, drop_unit, first_on, heads_of, held_between};
 use com_cd::{Designation, InArea};
 use com_msg::{Kind, Message, Rest};
 use com_text::Text;
-use com_tree::{Leaf, MAX_LEAVES, Node, Tree};
-use std::alloc::{AllocError, AllocFailed, Global};
+use com_tree::{Leaf, Node, Tree};
+use std::alloc::{AllocError, Global};
 use std::marker::Model;
 
 /// What a RECEIVE is given.
@@ -25,67 +27,60 @@ pub enum Taken {
     Unknown,
 }
 
-/// What waits on the leaves of a tree, and what units hold of it. Contracts see both as lists.
+/// What waits on the leaves of a tree, and what units hold of it. Contracts see both as lists. Each
+/// call is made with the tree that the queues were made for.
 #[derive(Debug, Drop)]
 pub struct Queues {
-    leaves: u32,
-    units: u32,
     waiting: Vec<Waiting>,
     held: Vec<Held>,
 }
 
 impl Model for Queues {
-    ghost use Rattle.com_recv.specs.Queued.{Queued, AreOnLeaves};
+    ghost use Rattle.com_recv.specs.Incoming.{Incoming, IsSound};
 
-    ghost Value = { Queued };
+    ghost Value = { Incoming };
 
     ghost view = { λ queues. record {
-      leaves = queues.leaves;
-      units = queues.units;
       waiting = queues.waiting.items;
       held = queues.held.items;
     } };
 
-    ghost invariant = { λ queues. AreOnLeaves (record {
-      leaves = queues.leaves;
-      units = queues.units;
+    ghost invariant = { λ queues. IsSound (record {
       waiting = queues.waiting.items;
       held = queues.held.items;
     }) };
 }
 
 impl Queues {
-    /// The queues of a tree for so many units, where nothing waits and nothing is held.
+    /// Queues where nothing waits and nothing is held, with room for a message on each leaf of the
+    /// tree and a rest of each of so many units.
     pub fn new(alloc: Global, tree: &Tree, units: u32) -> Result<Queues, AllocError>
-        ensures { IfOk result (λ queues. queues ≡ record {
-          leaves = leaf_count tree.now;
-          units = units;
-          waiting = [];
-          held = [];
-        }) }
+        ensures empty { IfOk result (λ queues. queues ≡ nothing) }
+        ensures tree { IfOk result (IsTreeOf tree.now) }
     {
+        let leaves = tree.rows().iter().filter(|row| row.is_leaf()).count();
         Ok(Queues {
-            leaves: tree.leaves(),
-            units,
-            waiting: Vec::new(alloc),
-            held: Vec::new(alloc),
+            waiting: Vec::with_capacity(alloc, leaves)?,
+            held: Vec::with_capacity(alloc, units as usize)?,
         })
     }
 
-    /// A message comes to wait on a leaf of the tree, behind all others. Without memory nothing
-    /// changes, and the message is handed back.
+    /// A message comes to wait on a leaf of the tree, behind all others. It has a greater arrival
+    /// number than those. Without memory nothing changes, and the message is handed back.
     pub fn put(
         &mut self,
         _tree: &Tree,
         leaf: Leaf,
         message: Message,
     ) -> Result<(), (Message, AllocError)>
-        requires tree { leaf_count _tree.now ≡ self.old.leaves }
+        requires tree { IsTreeOf _tree.now self.old }
         requires leaf { leaf.number < leaf_count _tree.now }
         requires segments { 1 ≤ length message.segments }
+        requires later { All (λ w. w.message.arrival < message.arrival) self.old.waiting }
         ensures ok { OnOk result (self.new ≡ record self.old {
-          waiting = self.old.waiting ++ record { leaf = leaf.number; message = message } ∷ [];
+          waiting = self.old.waiting ++ record { leaf = leaf; message = message } ∷ [];
         }) }
+        ensures tree { IsTreeOf _tree.now self.new }
         ensures err { OnErr result (self.new ≡ self.old) }
         ensures handed_back { IfErr result (λ refused. refused.0 ≡ message) }
     {
@@ -93,7 +88,7 @@ impl Queues {
             return Err((message, AllocError));
         }
         let waiting = Waiting {
-            leaf: leaf.number,
+            leaf,
             message: Rest::of(message),
         };
         let _ = self.waiting.push(waiting);
@@ -111,13 +106,11 @@ impl Queues {
         kind: Kind,
         size: u32,
     ) -> Result<Taken, AllocError>
-        requires tree { leaf_count tree.now ≡ self.old.leaves }
-        requires unit { unit < self.old.units }
+        requires tree { IsTreeOf tree.now self.old }
         requires size { (1 ≤ size) × (size ≤ 2000) }
         ensures received { IfOk result (λ taken. (taken, area.new, self.new)
             ≡ receive tree.now self.old unit area.old kind size) }
-        ensures leaves { self.new.leaves ≡ self.old.leaves }
-        ensures units { self.new.units ≡ self.old.units }
+        ensures tree { IsTreeOf tree.now self.new }
         ensures err { OnErr result (self.new ≡ self.old) }
         ensures area_err { OnErr result (area.new ≡ area.old) }
     {
@@ -125,8 +118,9 @@ impl Queues {
             *area = refused_area(*area);
             return Ok(Taken::Unknown);
         };
+        let request = Request { unit, kind, size };
         if let Some(at) = self.held_under(tree, unit, node) {
-            let text = give_held(tree, &mut self.held, at, area, kind, size)?;
+            let text = give_held(tree, &mut self.held, at, area, request)?;
             return Ok(Taken::Given(text));
         }
         match self.first_under(tree, node) {
@@ -136,10 +130,8 @@ impl Queues {
                     &mut self.waiting,
                     at,
                     &mut self.held,
-                    unit,
                     area,
-                    kind,
-                    size,
+                    request,
                 )?;
                 Ok(Taken::Given(text))
             }
@@ -150,40 +142,45 @@ impl Queues {
         }
     }
 
-    /// Whether a RECEIVE of the unit that designates a node has something to go on with: a rest that it
-    /// holds, or a message that the node chooses.
+    /// Whether a RECEIVE of the unit that designates a node has something to go on with: a rest that
+    /// it holds from a leaf there, or a message that waits on one.
     pub fn has_data(&self, tree: &Tree, unit: u32, node: Node) -> bool
-        requires tree { leaf_count tree.now ≡ self.now.leaves }
-        requires unit { unit < self.now.units }
+        requires tree { IsTreeOf tree.now self.now }
         requires node { node.row < length tree.now }
-        ensures { result ≡ has_data tree.now self.now unit node }
+        ensures data { result ≡ has_data tree.now self.now unit node }
+        ensures exact { result ≡ (has_rest tree.now self.now.held unit node
+            || has_message tree.now self.now.waiting node) }
     {
         self.held_under(tree, unit, node).is_some() || self.choice(tree, node).is_some()
     }
 
-    /// Whether a node chooses a leaf to take a message from.
+    /// Whether a message waits on a leaf under a node.
     pub fn has_message(&self, tree: &Tree, node: Node) -> bool
-        requires tree { leaf_count tree.now ≡ self.now.leaves }
+        requires tree { IsTreeOf tree.now self.now }
         requires node { node.row < length tree.now }
-        ensures { result ≡ is_some (chosen_leaf tree.now self.now.waiting node) }
+        ensures message { result ≡ has_message tree.now self.now.waiting node }
+        ensures choice { result ≡ is_some (chosen_leaf tree.now self.now.waiting node) }
     {
         self.choice(tree, node).is_some()
     }
 
-    /// The leaf that a node chooses, by the first message that waits on each leaf.
+    /// The leaf that a node chooses, by the first message that waits on each leaf: None exactly
+    /// where no message waits under the node.
     pub fn choice(&self, tree: &Tree, node: Node) -> Option<Leaf>
-        requires tree { leaf_count tree.now ≡ self.now.leaves }
+        requires tree { IsTreeOf tree.now self.now }
         requires node { node.row < length tree.now }
-        ensures { option_map (λ leaf. leaf.number) result
+        ensures leaf { option_map (λ leaf. leaf.number) result
             ≡ chosen_leaf tree.now self.now.waiting node }
+        ensures some { is_some result ≡ has_message tree.now self.now.waiting node }
+        ensures within { IfSome result (λ leaf. leaf.number < leaf_count tree.now) }
     {
         let heads = heads_of(&self.waiting);
-        tree.next(node, &heads[..self.leaves as usize])
+        tree.next(node, &heads[..tree.leaves() as usize])
     }
 
     /// ACCEPT MESSAGE COUNT: the area tells how many messages wait under the designated node.
     pub fn count(&self, tree: &Tree, area: &mut InArea)
-        requires tree { leaf_count tree.now ≡ self.now.leaves }
+        requires tree { IsTreeOf tree.now self.now }
         ensures { area.new ≡ count tree.now self.now area.old }
     {
         *area = match designated(tree, area) {
@@ -197,8 +194,8 @@ impl Queues {
 
     /// What a unit holds is gone.
     pub fn drop_unit(&mut self, unit: u32)
-        requires { unit < self.old.units }
-        ensures { self.new ≡ record self.old { held = without_unit unit self.old.held } }
+        ensures held { self.new ≡ record self.old { held = without_unit unit self.old.held } }
+        ensures tree { (tree : List TreeNode) → IsTreeOf tree self.old → IsTreeOf tree self.new }
     {
         drop_unit(&mut self.held, unit);
     }
@@ -215,24 +212,23 @@ impl Queues {
         held_between(&self.held, unit, first, past)
     }
 
-    /// The place of the message that a node chooses.
+    /// The place of the message that came first on the leaf that a node chooses.
     fn first_under(&self, tree: &Tree, node: Node) -> Option<usize>
-        requires tree { leaf_count tree.now ≡ self.now.leaves }
+        requires tree { IsTreeOf tree.now self.now }
         requires node { node.row < length tree.now }
         ensures { result ≡ place_of_choice tree.now self.now.waiting node }
     {
         let leaf = self.choice(tree, node)?;
-        first_on(&self.waiting, leaf.number)
+        first_on(&self.waiting, leaf)
     }
 }
 
 /// The node that the names of an area designate.
 fn designated(tree: &Tree, area: &InArea) -> Option<Node>
+    requires { IsWritten tree.now }
     ensures node { result ≡ designated tree.now area.now }
     ensures within { IfSome result (λ node. node.row < length tree.now) }
 {
-    // Its contract tells that the tree is one that may be written.
-    let _ = tree.rows();
     match area.designation() {
         Designation::Path(path) => tree.node(&path),
         Designation::Malformed => None,

@@ -8,11 +8,15 @@ use Rattle.std.proofs.lemmas.List.Elements.{filter-append}
 use Rattle.com_msg.specs.declared.message.RawMessage.{RawMessage}
 use Rattle.com_msg.specs.declared.message.Message.{Message}
 use Rattle.com_net.specs.declared.net.Net.{Net}
-use Rattle.com_state.specs.State.{State, Waiting, Held, stopped, unit_mode}
-use Rattle.com_state.specs.Wholeness.{HandedOut, is_last_key, texts_of, each_once, numbers_on, is_arrived, IsWholeMessage, IsLeftWith}
-use Rattle.com_state.proofs.Members.{Among, any_among, among_any}
+use Rattle.com_state.specs.Wholeness.{HandedOut, Arrival, is_last_key, texts_of, each_once, numbers_on, IsWholeMessage, IsLeftWith}
 use Rattle.com_state.proofs.Places.{get_front}
 use Rattle.com_state.proofs.Firsts.{AreApart, waiting_on}
+use Rattle.com_state.specs.State.{State, unit_mode}
+use Rattle.com_state.specs.declared.parties.UnitMode.TheVariants.{Stopped}
+use Rattle.com_recv.specs.declared.lists.Waiting.{Waiting}
+use Rattle.com_recv.specs.declared.lists.Held.{Held}
+use Rattle.com_recv.specs.Receiving.{count}
+use Rattle.com_recv.proofs.Members.{Among, any_among, among_any}
 
 -- the portions of one message
 abbrev pub portions_in : List HandedOut → ℕ → List HandedOut
@@ -23,48 +27,57 @@ abbrev pub handed_on : ℕ → List HandedOut → List ℕ
 handed_on leaf handed = map (λ portion. portion.arrival) (filter (λ portion. portion.leaf == leaf) handed)
 
 -- The rest of a message that has arrived on a leaf, when a unit alone has had these portions of it.
-pub record IsRest (arrivals : List (ℕ × RawMessage)) (portions : List HandedOut) (unit leaf : ℕ) (rest : Message) : Type 0 where
+pub record IsRest (arrivals : List Arrival) (portions : List HandedOut) (unit leaf : ℕ) (rest : Message) : Type 0 where
   pub place : ℕ
   pub message : RawMessage
   pub number : rest.arrival ≡ place + 1
-  pub arrived : slice_get arrivals place ≡ Some (leaf, message)
+  pub arrived : slice_get arrivals place ≡ Some (record { number = place + 1; leaf = leaf; message = message })
   pub one_unit : IsTrue (list_all (λ portion. portion.unit == unit) portions)
   pub one_leaf : IsTrue (list_all (λ portion. portion.leaf == leaf) portions)
   pub unended : list_any (λ portion. is_last_key portion.end_key) portions ≡ false
   pub text : texts_of portions ++ concat rest.segments ≡ concat message.segments
 
 -- a message that waits: it has arrived on its leaf, and nothing of it was handed out
-abbrev pub IsFresh : List (ℕ × RawMessage) → List HandedOut → Waiting → Type 0
-IsFresh arrivals handed w = (portions_in handed w.message.arrival ≡ []) × ((unit : ℕ) → IsRest arrivals [] unit w.leaf w.message)
+abbrev pub IsFresh : List Arrival → List HandedOut → Waiting → Type 0
+IsFresh arrivals handed w = (portions_in handed w.message.arrival ≡ []) × ((unit : ℕ) → IsRest arrivals [] unit w.leaf.number w.message)
 
 -- what a unit holds: the rest of a message of which it has had a portion
-abbrev pub IsInHand : List (ℕ × RawMessage) → List HandedOut → Held → Type 0
+abbrev pub IsInHand : List Arrival → List HandedOut → Held → Type 0
 IsInHand arrivals handed h =
-    (portions_in handed h.rest.arrival ≢ []) × IsRest arrivals (portions_in handed h.rest.arrival) h.unit h.leaf h.rest
+    (portions_in handed h.rest.arrival ≢ []) × IsRest arrivals (portions_in handed h.rest.arrival) h.unit h.leaf.number h.rest
 
 -- a unit holds no more than one message from a leaf
 abbrev pub IsOneEach : List Held → Type 0
-IsOneEach held = (h other : Held) → Among h held → Among other held → h.unit ≡ other.unit → h.leaf ≡ other.leaf → h.rest.arrival ≡ other.rest.arrival
+IsOneEach held = (h other : Held) → Among h held → Among other held → h.unit ≡ other.unit → h.leaf.number ≡ other.leaf.number → h.rest.arrival ≡ other.rest.arrival
 
 -- each arrival is handed out whole
-abbrev pub AreWhole : State → List (ℕ × RawMessage) → List HandedOut → Type 0
-AreWhole S arrivals handed = (n leaf : ℕ) (message : RawMessage) → slice_get arrivals n ≡ Some (leaf, message) → IsWholeMessage S (n + 1) message (portions_in handed (n + 1))
+abbrev pub AreWhole : State → List Arrival → List HandedOut → Type 0
+AreWhole S arrivals handed = (n : ℕ) (arrival : Arrival) → slice_get arrivals n ≡ Some arrival → IsWholeMessage S arrival.number arrival.message (portions_in handed arrival.number)
+
+-- the arrivals are numbered from 1
+abbrev pub AreNumbered : List Arrival → Type 0
+AreNumbered arrivals = (n : ℕ) (arrival : Arrival) → slice_get arrivals n ≡ Some arrival → arrival.number ≡ n + 1
+
+-- the number is one of so many
+abbrev pub is_arrived : ℕ → ℕ → Bool
+is_arrived arrival count = nat_le 1 arrival && nat_le arrival count
 
 -- what was handed out of each leaf, and what waits there, are its arrivals in order
-abbrev pub AreInOrder : List (ℕ × RawMessage) → List HandedOut → List Waiting → Type 0
+abbrev pub AreInOrder : List Arrival → List HandedOut → List Waiting → Type 0
 AreInOrder arrivals handed waiting = (leaf : ℕ) → each_once (handed_on leaf handed) ++ waiting_on leaf waiting ≡ numbers_on leaf arrivals
 
 -- The accounts of a state, after these arrivals and these portions.
-pub record Accounts (network : Net) (arrivals : List (ℕ × RawMessage)) (handed : List HandedOut) (S : State) : Type 0 where
+pub record Accounts (network : Net) (arrivals : List Arrival) (handed : List HandedOut) (S : State) : Type 0 where
   pub net : S.net ≡ network
   pub count : S.arrivals ≡ length arrivals
-  pub waiting : (w : Waiting) → Among w S.waiting → IsFresh arrivals handed w
-  pub apart : AreApart S.waiting
-  pub held : (h : Held) → Among h S.held → IsInHand arrivals handed h
-  pub one_each : IsOneEach S.held
+  pub numbered : AreNumbered arrivals
+  pub waiting : (w : Waiting) → Among w S.incoming.waiting → IsFresh arrivals handed w
+  pub apart : AreApart S.incoming.waiting
+  pub held : (h : Held) → Among h S.incoming.held → IsInHand arrivals handed h
+  pub one_each : IsOneEach S.incoming.held
   pub arrived : IsTrue (list_all (λ portion. is_arrived portion.arrival (length arrivals)) handed)
   pub whole : AreWhole S arrivals handed
-  pub order : AreInOrder arrivals handed S.waiting
+  pub order : AreInOrder arrivals handed S.incoming.waiting
 
 -- a portion of this message comes behind its others
 pub portions_same : (handed : List HandedOut) (portion : HandedOut) (number : ℕ) → portion.arrival ≡ number → portions_in (handed ++ portion ∷ []) number ≡ portions_in handed number ++ portion ∷ []
@@ -79,12 +92,12 @@ portions_other handed portion number ne =
     filter-append (λ portion. portion.arrival == number) handed (portion ∷ []) ∙ (ap (λ b. portions_in handed number ++ cond b (portion ∷ []) []) elsewhere ∙ append-nil (portions_in handed number))
 
 -- more arrivals leave a rest
-pub rest_grown : (arrivals more : List (ℕ × RawMessage)) (portions : List HandedOut) (unit leaf : ℕ) (rest : Message) → IsRest arrivals portions unit leaf rest → IsRest (arrivals ++ more) portions unit leaf rest
+pub rest_grown : (arrivals more : List Arrival) (portions : List HandedOut) (unit leaf : ℕ) (rest : Message) → IsRest arrivals portions unit leaf rest → IsRest (arrivals ++ more) portions unit leaf rest
 rest_grown arrivals more portions unit leaf rest h = record {
   place = h.place;
   message = h.message;
   number = h.number;
-  arrived = get_front arrivals more h.place (leaf, h.message) h.arrived;
+  arrived = get_front arrivals more h.place (record { number = h.place + 1; leaf = leaf; message = h.message }) h.arrived;
   one_unit = h.one_unit;
   one_leaf = h.one_leaf;
   unended = h.unended;
@@ -107,15 +120,15 @@ abbrev pub holds_number : ℕ → ℕ → Held → Bool
 holds_number unit number h = h.unit == unit && h.rest.arrival == number
 
 -- a message stays with a unit that goes on to hold it, or that stops
-pub left_stays : (S next : State) (unit number : ℕ) → (unit_mode S unit ≡ Some stopped → unit_mode next unit ≡ Some stopped)
-    → ((h : Held) → Among h S.held → h.unit ≡ unit → h.rest.arrival ≡ number → Among h next.held ⊎ (unit_mode next unit ≡ Some stopped))
+pub left_stays : (S next : State) (unit number : ℕ) → (unit_mode S unit ≡ Some Stopped → unit_mode next unit ≡ Some Stopped)
+    → ((h : Held) → Among h S.incoming.held → h.unit ≡ unit → h.rest.arrival ≡ number → Among h next.incoming.held ⊎ (unit_mode next unit ≡ Some Stopped))
     → IsLeftWith S unit number → IsLeftWith next unit number
 left_stays S next unit number stay keeps (inr has_stopped) = inr (stay has_stopped)
 left_stays S next unit number stay keeps (inl holds) =
-    let one = any_among (holds_number unit number) S.held holds in
+    let one = any_among (holds_number unit number) S.incoming.held holds in
     let parts = and_parts (one.0.unit == unit) (one.0.rest.arrival == number) one.2 in
     elim (keeps one.0 one.1 (eqb-true one.0.unit unit parts.0) (eqb-true one.0.rest.arrival number parts.1)) [
-      | inl still ↦ inl (among_any (holds_number unit number) one.0 next.held still one.2)
+      | inl still ↦ inl (among_any (holds_number unit number) one.0 next.incoming.held still one.2)
       | inr has_stopped ↦ inr has_stopped
     ]
 

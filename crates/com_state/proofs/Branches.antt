@@ -13,7 +13,7 @@ use Rattle.com_tree.specs.declared.tree.Node.{Node}
 use Rattle.com_tree.specs.Written.{is_leaf, is_leaf_choice, is_deeper, leaf_count, rows_below}
 use Rattle.com_tree.specs.Places.{branch_of, first_leaf, past_leaf}
 use Rattle.com_tree.specs.NextLeaf.{node_at, below, level, children, is_next_level}
-use Rattle.com_state.proofs.Members.{Among, filter_among, map_among, range_among}
+use Rattle.com_recv.proofs.Members.{Among, filter_among, map_among, range_among}
 
 -- from within the front that passes, the rest of it passes
 prefix_behind : {X : Type 0} (p : X → Bool) (n : ℕ) (xs : List X) → n ≤ prefix_len p xs → prefix_len p xs ≡ n + prefix_len p (drop n xs)

@@ -10,12 +10,12 @@ use Rattle.com_tree.specs.declared.tree.Choose.TheVariants.{Ordered, Oldest}
 use Rattle.com_tree.specs.declared.tree.Node.{Node}
 use Rattle.com_tree.specs.Places.{first_leaf, past_leaf}
 use Rattle.com_tree.specs.NextLeaf.{children, first_found, is_later, oldest, chosen, choice_by, choice}
-use Rattle.com_net.specs.declared.net.Net.{Net}
-use Rattle.com_state.specs.State.{State, Waiting, Held}
-use Rattle.com_state.specs.Queues.{chosen_leaf, first_on, leaves_of, is_held_on, held_on, held_under}
 use Rattle.com_state.proofs.Frames.{option_cases}
-use Rattle.com_state.proofs.Members.{Among, map_among, among_range, find_among, none_among, any_among, among_any}
 use Rattle.com_state.proofs.Branches.{children_within, leaf_within}
+use Rattle.com_recv.specs.declared.lists.Waiting.{Waiting}
+use Rattle.com_recv.specs.declared.lists.Held.{Held}
+use Rattle.com_recv.specs.Incoming.{first_number, leaves_of, chosen_leaf, is_held_on, held_on, held_under}
+use Rattle.com_recv.proofs.Members.{Among, any_among, among_any, find_among, none_among, map_among, among_range}
 
 -- the first that there is, is one of them
 first_among : (choices : List (Option ℕ)) (leaf : ℕ) → first_found choices ≡ Some leaf → Among (Some leaf) choices
@@ -72,39 +72,38 @@ choice_within (suc levels) rows first node leaf h =
     ])
 
 -- so does the leaf that a RECEIVE takes from
-chosen_within : (net : Net) (waiting : List Waiting) (node : Node) (leaf : ℕ) → chosen_leaf net waiting node ≡ Some leaf
-    → (first_leaf net.tree node ≤ leaf) × (leaf < past_leaf net.tree node)
-chosen_within net waiting node leaf h =
-    let first = λ (leaf : ℕ). option_map (λ message. message.arrival) (first_on waiting leaf) in
-    elim (option_cases (choice 4 net.tree first node)) [
+chosen_within : (tree : List TreeRow) (waiting : List Waiting) (node : Node) (leaf : ℕ) → chosen_leaf tree waiting node ≡ Some leaf
+    → (first_leaf tree node ≤ leaf) × (leaf < past_leaf tree node)
+chosen_within tree waiting node leaf h =
+    elim (option_cases (choice 4 tree (first_number waiting) node)) [
       | inl none ↦ absurd (none-some leaf (rw (none, chosen_leaf) at h))
       | inr some ↦
           let e : some.0 ≡ leaf = same_Some some.0 leaf (rw (some.1, chosen_leaf) at h) in
-          choice_within 4 net.tree first node leaf (some.1 ∙ ap (λ n. Some n) e)
+          choice_within 4 tree (first_number waiting) node leaf (some.1 ∙ ap (λ n. Some n) e)
     ]
 
 -- the leaf that a node chooses is one of those under it
-pub chosen_among_leaves : (net : Net) (waiting : List Waiting) (node : Node) (leaf : ℕ) → chosen_leaf net waiting node ≡ Some leaf → Among leaf (leaves_of net node)
-chosen_among_leaves net waiting node leaf h =
-    let within = chosen_within net waiting node leaf h in
-    among_range (first_leaf net.tree node) (past_leaf net.tree node - first_leaf net.tree node) leaf within.0 (omega (arith, within))
+pub chosen_among_leaves : (tree : List TreeRow) (waiting : List Waiting) (node : Node) (leaf : ℕ) → chosen_leaf tree waiting node ≡ Some leaf → Among leaf (leaves_of tree node)
+chosen_among_leaves tree waiting node leaf h =
+    let within = chosen_within tree waiting node leaf h in
+    among_range (first_leaf tree node) (past_leaf tree node - first_leaf tree node) leaf within.0 (omega (arith, within.0, within.1))
 
 -- what is held under a node is held on some leaf
-pub held_there : (S : State) (unit : ℕ) (node : Node) (h : Held) → held_under S unit node ≡ Some h → (leaf : ℕ) × (held_on S.held unit leaf ≡ Some h)
-held_there S unit node h e =
-    option_and_then_some (λ leaf. held_on S.held unit leaf) (find (λ leaf. list_any (is_held_on unit leaf) S.held) (leaves_of S.net node)) h e
+pub held_there : (tree : List TreeRow) (held : List Held) (unit : ℕ) (node : Node) (h : Held) → held_under tree held unit node ≡ Some h → (leaf : ℕ) × (held_on held unit leaf ≡ Some h)
+held_there tree held unit node h e =
+    option_and_then_some (λ leaf. held_on held unit leaf) (find (λ leaf. list_any (is_held_on unit leaf) held) (leaves_of tree node)) h e
     (λ leaf found there. (leaf, there))
 
 -- where a unit holds nothing under a node, it holds nothing from a leaf there
-pub held_nowhere : (S : State) (unit : ℕ) (node : Node) (leaf : ℕ) (h : Held) → held_under S unit node ≡ None → Among leaf (leaves_of S.net node)
-    → Among h S.held → is_held_on unit leaf h ≡ true → ⊥
-held_nowhere S unit node leaf h none under among on =
-    let holds = λ (leaf : ℕ). list_any (is_held_on unit leaf) S.held in
-    elim (option_cases (find holds (leaves_of S.net node))) [
-      | inl nowhere ↦ none_among holds (leaves_of S.net node) leaf nowhere under (among_any (is_held_on unit leaf) h S.held among on)
+pub held_nowhere : (tree : List TreeRow) (held : List Held) (unit : ℕ) (node : Node) (leaf : ℕ) (h : Held) → held_under tree held unit node ≡ None → Among leaf (leaves_of tree node)
+    → Among h held → is_held_on unit leaf h ≡ true → ⊥
+held_nowhere tree held unit node leaf h none under among on =
+    let holds = λ (leaf : ℕ). list_any (is_held_on unit leaf) held in
+    elim (option_cases (find holds (leaves_of tree node))) [
+      | inl nowhere ↦ none_among holds (leaves_of tree node) leaf nowhere under (among_any (is_held_on unit leaf) h held among on)
       | inr somewhere ↦
-          let there = find_among holds (leaves_of S.net node) somewhere.0 somewhere.1 in
-          let one = any_among (is_held_on unit somewhere.0) S.held there.1 in
-          let absent : held_on S.held unit somewhere.0 ≡ None = rw (somewhere.1, held_under) at none in
-          none_among (is_held_on unit somewhere.0) S.held one.0 absent one.1 one.2
+          let there = find_among holds (leaves_of tree node) somewhere.0 somewhere.1 in
+          let one = any_among (is_held_on unit somewhere.0) held there.1 in
+          let absent : held_on held unit somewhere.0 ≡ None = rw (somewhere.1, held_under) at none in
+          none_among (is_held_on unit somewhere.0) held one.0 absent one.1 one.2
     ]

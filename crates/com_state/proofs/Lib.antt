@@ -1,26 +1,31 @@
-mod Frames
-mod Kept
-mod Stepped
-mod Others
-mod Refusals
-mod Members
-mod Taken
-mod Onces
-mod Branches
-mod Chosen
-mod Places
-mod Stays
-mod Aside
-mod Changes
-mod Receives
-mod Changing
-mod Firsts
-mod Numbers
 mod Accounts
 mod Arriving
-mod Going
-mod Portioned
+mod Aside
+mod Branches
+mod Changes
+mod Changing
+mod Chosen
+mod Firsts
+mod Frames
 mod Giving
-pub mod Whole
+mod Going
+mod Kept
+mod Onces
+mod Others
+mod Places
+mod Portioned
+mod Receives
+mod Refusals
+mod Stays
+mod StepCases
+mod Stepped
+mod Taken
+mod WorkedInputs
+mod WorkedNets
+mod WorkedReceives
+mod WorkedSends
+mod WorkedUnits
 pub mod Portions
 pub mod Runs
+pub mod Verbs
+pub mod Whole

@@ -7,7 +7,7 @@ use Rattle.std.proofs.lemmas.List.{append-nil}
 use Rattle.std.proofs.lemmas.List.Elements.{filter-append}
 use Rattle.std.proofs.Common.{eq-eqb}
 use Rattle.com_state.specs.Wholeness.{each_once}
-use Rattle.com_state.proofs.Members.{Among, among_or_not}
+use Rattle.com_recv.proofs.Members.{Among, among_or_not}
 
 -- the other numbers
 abbrev others : ℕ → List ℕ → List ℕ

@@ -8,12 +8,13 @@ use Rattle.std.proofs.lemmas.List.Folds.{concat-append, list_all-append, list_an
 use Rattle.com_msg.specs.declared.message.RawMessage.{RawMessage}
 use Rattle.com_msg.specs.declared.message.Message.{Message}
 use Rattle.com_msg.specs.Portion.{with_pieces}
-use Rattle.com_state.specs.State.{State, Held}
-use Rattle.com_state.specs.Queues.{with_held}
-use Rattle.com_state.specs.Wholeness.{HandedOut, is_last_key, texts_of, are_ended_once, IsWholeMessage, IsHandedTo, IsLeftWith, IsGivenWhole}
-use Rattle.com_state.proofs.Members.{Among}
+use Rattle.com_state.specs.Wholeness.{HandedOut, Arrival, is_last_key, texts_of, are_ended_once, IsWholeMessage, IsHandedTo, IsLeftWith, IsGivenWhole}
 use Rattle.com_state.proofs.Taken.{is_nothing_left}
 use Rattle.com_state.proofs.Accounts.{IsRest}
+use Rattle.com_state.specs.State.{State}
+use Rattle.com_recv.specs.declared.lists.Held.{Held}
+use Rattle.com_recv.specs.Incoming.{with_held}
+use Rattle.com_recv.proofs.Members.{Among}
 
 -- the text of one portion more
 texts_more : (portions : List HandedOut) (portion : HandedOut) → texts_of (portions ++ portion ∷ []) ≡ texts_of portions ++ portion.text
@@ -43,18 +44,18 @@ pub record IsTaken (unit leaf : ℕ) (rest : Message) (portion : HandedOut) (lef
   pub key : is_last_key portion.end_key ≡ is_nothing_left left
 
 -- with what is left, the portions are the text of the message
-text_more : (arrivals : List (ℕ × RawMessage)) (portions : List HandedOut) (unit leaf : ℕ) (rest : Message) (portion : HandedOut) (left : List (List ℕ))
+text_more : (arrivals : List Arrival) (portions : List HandedOut) (unit leaf : ℕ) (rest : Message) (portion : HandedOut) (left : List (List ℕ))
     → (h : IsRest arrivals portions unit leaf rest) → IsTaken unit leaf rest portion left → texts_of (portions ++ portion ∷ []) ++ concat left ≡ concat h.message.segments
 text_more arrivals portions unit leaf rest portion left h taken =
     ap (λ front. front ++ concat left) (texts_more portions portion) ∙ (append_assoc (texts_of portions) portion.text (concat left) ∙ (ap (λ behind. texts_of portions ++ behind) taken.text ∙ h.text))
 
 -- all of them are of the unit
-unit_more : (arrivals : List (ℕ × RawMessage)) (portions : List HandedOut) (unit leaf : ℕ) (rest : Message) (portion : HandedOut) (left : List (List ℕ))
+unit_more : (arrivals : List Arrival) (portions : List HandedOut) (unit leaf : ℕ) (rest : Message) (portion : HandedOut) (left : List (List ℕ))
     → IsRest arrivals portions unit leaf rest → IsTaken unit leaf rest portion left → IsTrue (list_all (λ (p : HandedOut). p.unit == unit) (portions ++ portion ∷ []))
 unit_more arrivals portions unit leaf rest portion left h taken = all_more (λ (p : HandedOut). p.unit == unit) portions portion h.one_unit (eq-eqb portion.unit unit taken.unit_is)
 
 -- what is left is a rest again
-pub rest_more : (arrivals : List (ℕ × RawMessage)) (portions : List HandedOut) (unit leaf : ℕ) (rest : Message) (portion : HandedOut) (left : List (List ℕ))
+pub rest_more : (arrivals : List Arrival) (portions : List HandedOut) (unit leaf : ℕ) (rest : Message) (portion : HandedOut) (left : List (List ℕ))
     → IsRest arrivals portions unit leaf rest → IsTaken unit leaf rest portion left → is_nothing_left left ≡ false → IsRest arrivals (portions ++ portion ∷ []) unit leaf (with_pieces left rest)
 rest_more arrivals portions unit leaf rest portion left h taken more = record {
   place = h.place;
@@ -69,7 +70,7 @@ rest_more arrivals portions unit leaf rest portion left h taken more = record {
 }
 
 -- where nothing is left, the message is handed out whole
-given_more : (arrivals : List (ℕ × RawMessage)) (portions : List HandedOut) (unit leaf : ℕ) (rest : Message) (portion : HandedOut) (left : List (List ℕ))
+given_more : (arrivals : List Arrival) (portions : List HandedOut) (unit leaf : ℕ) (rest : Message) (portion : HandedOut) (left : List (List ℕ))
     → (h : IsRest arrivals portions unit leaf rest) → IsTaken unit leaf rest portion left → is_nothing_left left ≡ true → IsGivenWhole (portions ++ portion ∷ []) h.message
 given_more arrivals portions unit leaf rest portion [] h taken none = (
   sym (append-nil (texts_of (portions ++ portion ∷ []))) ∙ text_more arrivals portions unit leaf rest portion [] h taken,
@@ -86,7 +87,7 @@ whole_from S number message (portion ∷ portions) unit h =
     subst (IsHandedTo S number message (portion ∷ portions)) (sym its) h
 
 -- after the portion, the message is whole, where the unit holds what is left
-pub whole_more : (arrivals : List (ℕ × RawMessage)) (portions : List HandedOut) (unit leaf : ℕ) (rest : Message) (portion : HandedOut) (left : List (List ℕ)) (S : State) (number : ℕ)
+pub whole_more : (arrivals : List Arrival) (portions : List HandedOut) (unit leaf : ℕ) (rest : Message) (portion : HandedOut) (left : List (List ℕ)) (S : State) (number : ℕ)
     → (h : IsRest arrivals portions unit leaf rest) → IsTaken unit leaf rest portion left → (is_nothing_left left ≡ false → IsLeftWith S unit number) → IsWholeMessage S number h.message (portions ++ portion ∷ [])
 whole_more arrivals portions unit leaf rest portion left S number h taken holds = whole_from S number h.message (portions ++ portion ∷ []) unit record {
   one_unit = unit_more arrivals portions unit leaf rest portion left h taken;
@@ -100,7 +101,7 @@ whole_more arrivals portions unit leaf rest portion left S number h taken holds 
 
 -- what is held then: what is left, and what was held besides
 pub held_cases : (unit leaf : ℕ) (rest : Message) (left : List (List ℕ)) (held : List Held) (h : Held) → Among h (with_held unit leaf rest left held)
-    → ((is_nothing_left left ≡ false) × (h ≡ record { unit = unit; leaf = leaf; rest = rest })) ⊎ Among h held
+    → ((is_nothing_left left ≡ false) × (h ≡ record { unit = unit; leaf = record { number = leaf }; rest = rest })) ⊎ Among h held
 held_cases unit leaf rest [] held h among = inr among
 held_cases unit leaf rest (piece ∷ left) held h (inl e) = inl (refl, e)
 held_cases unit leaf rest (piece ∷ left) held h (inr among) = inr among
@@ -109,6 +110,6 @@ pub held_besides : (unit leaf : ℕ) (rest : Message) (left : List (List ℕ)) (
 held_besides unit leaf rest [] held h among = among
 held_besides unit leaf rest (piece ∷ left) held h among = inr among
 
-pub held_left : (unit leaf : ℕ) (rest : Message) (left : List (List ℕ)) (held : List Held) → is_nothing_left left ≡ false → Among (record { unit = unit; leaf = leaf; rest = rest }) (with_held unit leaf rest left held)
+pub held_left : (unit leaf : ℕ) (rest : Message) (left : List (List ℕ)) (held : List Held) → is_nothing_left left ≡ false → Among (record { unit = unit; leaf = record { number = leaf }; rest = rest }) (with_held unit leaf rest left held)
 held_left unit leaf rest [] held more = absurd (true≢false more)
 held_left unit leaf rest (piece ∷ left) held more = inl refl

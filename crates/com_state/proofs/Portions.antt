@@ -16,11 +16,14 @@ use Rattle.com_events.specs.declared.call.Party.TheVariants as party
 use Rattle.com_events.specs.declared.call.Call.TheVariants as made
 use Rattle.com_events.specs.declared.reply.Reply.{Reply}
 use Rattle.com_events.specs.declared.reply.Reply.TheVariants.{Started, Given, Arrived}
-use Rattle.com_state.specs.State.{State, unit_mode}
-use Rattle.com_state.specs.Queues.{Next, designated, chosen_leaf, next_rest, receive_next, receive, is_ready}
-use Rattle.com_net.specs.Numbers.{unit_number, terminal_number}
-use Rattle.com_state.specs.Steps.{step, unit_step, terminal_step, with_reply, receive_running, step_receive, is_waiting_for, is_running, is_dormant, may_do_verb, start, schedule_of, feed_of, arrive}
 use Rattle.com_state.proofs.Frames.{option_cases, next_if-Some}
+use Rattle.com_state.specs.State.{State, unit_mode}
+use Rattle.com_state.specs.Answers.{is_ready}
+use Rattle.com_state.specs.Steps.{is_dormant, is_running, may_do_verb, with_reply, feed_of, schedule_of, start, receive_running, is_waiting_for, step_receive, arrive, unit_step, terminal_step, step}
+use Rattle.com_recv.specs.Incoming.{designated, chosen_leaf}
+use Rattle.com_recv.specs.Receiving.{Next}
+use Rattle.com_state.proofs.Verbs.{receive_in, receive_next_in, next_in}
+use Rattle.com_state.proofs.StepCases.{step_of_unit, step_of_terminal}
 
 -- no more than the first characters are no more than their number
 length-front : (n : ℕ) (xs : List ℕ) → length (take n xs) ≤ n
@@ -49,18 +52,18 @@ abbrev GivesUpTo : ℕ → Reply → Type 0
 GivesUpTo size (Given given text) = length text ≤ size
 GivesUpTo size _ = Unit {0}
 
-up_to_next : (S : State) (unit : ℕ) (area : List ℕ) (kind : Kind) (size : ℕ) (found : Option Next) → GivesUpTo size (receive_next S unit area kind size found).0
+up_to_next : (S : State) (unit : ℕ) (area : List ℕ) (kind : Kind) (size : ℕ) (found : Option Next) → GivesUpTo size (receive_next_in S unit area kind size found).0
 up_to_next S unit area kind size None = tt
 up_to_next S unit area kind size (Some next) = length-portion kind size next.rest.end next.rest.segments
 
-up_to_receive : (S : State) (unit : ℕ) (area : List ℕ) (kind : Kind) (size : ℕ) → GivesUpTo size (receive S unit area kind size).0
-up_to_receive S unit area kind size = elim (option_cases (designated S.net area)) [
-  | inl none ↦ rw (none, receive) tt
-  | inr some ↦ rw (some.1, receive) (up_to_next S unit area kind size (next_rest S unit some.0))
+up_to_receive : (S : State) (unit : ℕ) (area : List ℕ) (kind : Kind) (size : ℕ) → GivesUpTo size (receive_in S unit area kind size).0
+up_to_receive S unit area kind size = elim (option_cases (designated S.net.tree area)) [
+  | inl none ↦ rw (none, receive_in) tt
+  | inr some ↦ rw (some.1, receive_in) (up_to_next S unit area kind size (next_in S unit some.0))
 ]
 
 up_to_running : (S : State) (unit : ℕ) (area : List ℕ) (kind : Kind) (size : ℕ) (no_data : Bool) → GivesUpTo size (receive_running S unit area kind size no_data).0
-up_to_running S unit area kind size no_data = elim (cases_Bool ((no_data || is_none (designated S.net area)) || is_ready S unit area)) [
+up_to_running S unit area kind size no_data = elim (cases_Bool ((no_data || is_none (designated S.net.tree area)) || is_ready S unit area)) [
   | inl now ↦ rw (now, receive_running) (up_to_receive S unit area kind size)
   | inr later ↦ rw (later, receive_running) tt
 ]
@@ -75,22 +78,19 @@ up_to_step S unit area kind size no_data reply next h = elim (cases_Bool (is_run
       up_to_done size (receive_running S unit area kind size no_data) reply next (same_Some _ _ done) (up_to_running S unit area kind size no_data)
   | inr waits ↦
       let resumed = rw (waits, step_receive) at h in
-      up_to_done size (with_reply unit (receive S unit area kind size)) reply next
+      up_to_done size (with_reply unit (receive_in S unit area kind size)) reply next
       (next_if-Some (is_waiting_for (unit_mode S unit) area kind size no_data && is_ready S unit area) _ _ resumed) (up_to_receive S unit area kind size)
 ]
 
 -- RECEIVE gives no more characters than it asks for
 pub no_more_than_asked : (S next : State) (name area given text : List ℕ) (kind : Kind) (size : ℕ) (no_data : Bool)
     → step S (party.Unit name) (made.Receive area kind size no_data) ≡ Some (Given given text, next) → length text ≤ size
-no_more_than_asked S next name area given text kind size no_data h = elim (option_cases (unit_number S.net name)) [
-  | inl none ↦ absurd (none-some (Given given text, next) (rw (none, step) at h))
-  | inr some ↦
-      let here = rw (some.1, step) at h in
-      elim (cases_Bool (may_do_verb S some.0)) [
-        | inl may ↦ up_to_step S some.0 area kind size no_data (Given given text) next (rw (may, unit_step) at here)
-        | inr done ↦ absurd (none-some (Given given text, next) (rw (done, unit_step) at here))
-      ]
-]
+no_more_than_asked S next name area given text kind size no_data h =
+    let its = step_of_unit S name (made.Receive area kind size no_data) (Given given text) next h in
+    elim (cases_Bool (may_do_verb S its.0)) [
+      | inl may ↦ up_to_step S its.0 area kind size no_data (Given given text) next (rw (may, unit_step) at its.2)
+      | inr done ↦ absurd (none-some (Given given text, next) (rw (done, unit_step) at its.2))
+    ]
 
 abbrev IsStart : Reply → Type 0
 IsStart (Started names) = Unit {0}
@@ -105,31 +105,25 @@ is_start done reply next e h = subst (λ (p : Reply × State). IsStart p.0) (sam
 
 started_unit : (S : State) (unit : ℕ) (schedule : Option Node) (reply : Reply) (next : State) → start S unit schedule ≡ Some (reply, next) → IsStart reply
 started_unit S unit None reply next h = is_start _ reply next h tt
-started_unit S unit (Some node) reply next h = elim (option_cases (chosen_leaf S.net S.waiting node)) [
+started_unit S unit (Some node) reply next h = elim (option_cases (chosen_leaf S.net.tree S.incoming.waiting node)) [
   | inl none ↦ absurd (none-some (reply, next) (rw none at h))
   | inr some ↦ is_start _ reply next (rw some.1 at h) tt
 ]
 
 -- START is answered that the unit runs
 pub only_started : (S next : State) (name area text : List ℕ) → step S (party.Unit name) made.Start ≡ Some (Given area text, next) → ⊥
-only_started S next name area text h = elim (option_cases (unit_number S.net name)) [
-  | inl none ↦ none-some (Given area text, next) (rw (none, step) at h)
-  | inr some ↦
-      let here = rw (some.1, step) at h in
-      elim (cases_Bool (is_dormant (unit_mode S some.0))) [
-        | inl dormant ↦ started_unit S some.0 (schedule_of S.net some.0) (Given area text) next (rw (dormant, unit_step) at here)
-        | inr other ↦ none-some (Given area text, next) (rw (other, unit_step) at here)
-      ]
-]
+only_started S next name area text h =
+    let its = step_of_unit S name made.Start (Given area text) next h in
+    elim (cases_Bool (is_dormant (unit_mode S its.0))) [
+      | inl dormant ↦ started_unit S its.0 (schedule_of S.net its.0) (Given area text) next (rw (dormant, unit_step) at its.2)
+      | inr other ↦ none-some (Given area text, next) (rw (other, unit_step) at its.2)
+    ]
 
 -- ARRIVE is answered by a number
 pub only_arrived : (S next : State) (name area text : List ℕ) (stamp : Moment) (message : RawMessage) → step S (party.Terminal name) (made.Arrive stamp message) ≡ Some (Given area text, next) → ⊥
-only_arrived S next name area text stamp message h = elim (option_cases (terminal_number S.net name)) [
-  | inl none ↦ none-some (Given area text, next) (rw (none, step) at h)
-  | inr some ↦
-      let here = rw (some.1, step) at h in
-      elim (option_cases (feed_of S.net some.0)) [
-        | inl unfed ↦ none-some (Given area text, next) (rw (unfed, terminal_step) at here)
-        | inr fed ↦ subst (λ (p : Reply × State). IsArrival p.0) (next_if-Some _ (arrive S some.0 name stamp message fed.0) (Given area text, next) (rw (fed.1, terminal_step) at here)) tt
-      ]
-]
+only_arrived S next name area text stamp message h =
+    let its = step_of_terminal S name (made.Arrive stamp message) (Given area text) next h in
+    elim (option_cases (feed_of S.net its.0)) [
+      | inl unfed ↦ none-some (Given area text, next) (rw (unfed, terminal_step) at its.2)
+      | inr fed ↦ subst (λ (p : Reply × State). IsArrival p.0) (next_if-Some _ (arrive S its.0 name stamp message fed.0) (Given area text, next) (rw (fed.1, terminal_step) at its.2)) tt
+    ]

@@ -1,7 +1,7 @@
 -- What a refused call writes.
 use Rattle.std.proofs.Common.{◌≡◌, ℕ, ◌+◌, ◌-◌, ◌*◌, ◌≤◌, Bool, true, false, ◌&&◌, Some, None, Option, List, [], ◌∷◌, ◌++◌, length, take, drop, refl, sym, ap, ◌∙◌, arith, inl, inr, subst, length-append, append_assoc}
-use Rattle.std.specs.Prelude.{◌||◌, not, is_none, min, IsTrue, if◌then◌else◌, codes, option_map, unwrap_or, slice_get, slice_range}
-use Rattle.std.specs.List.{fold, list_any, list_all, range_with_len}
+use Rattle.std.specs.Prelude.{◌||◌, is_none, min, IsTrue, if◌then◌else◌, codes, option_map, slice_get, slice_range}
+use Rattle.std.specs.List.{fold, list_any, enumerate_from}
 use Rattle.std.specs.Str.{bytes_eq}
 use Rattle.std.proofs.lemmas.Bool.{cases_Bool, false≢true}
 use Rattle.std.proofs.lemmas.Option.{none-some, same_Some}
@@ -10,7 +10,7 @@ use Rattle.com_text.specs.Digits.{in_digits}
 use Rattle.com_msg.specs.declared.rest.Kind.{Kind}
 use Rattle.com_msg.specs.declared.sending.Part.{Part}
 use Rattle.com_cd.specs.InputArea.{set_in, in_field}
-use Rattle.com_cd.specs.OutputArea.{out_field, destination_count}
+use Rattle.com_cd.specs.OutputArea.{out_field}
 use Rattle.com_cd.specs.Status.{status_bytes}
 use Rattle.com_cd.specs.declared.status.Status.{Status}
 use Rattle.com_cd.specs.declared.status.Status.TheVariants.{S00, S10, S20, S30, S40, S50, S60}
@@ -25,14 +25,21 @@ use Rattle.com_events.specs.declared.call.Call.TheVariants as made
 use Rattle.com_events.specs.declared.reply.Reply.{Reply}
 use Rattle.com_events.specs.declared.reply.Reply.TheVariants.{Refused, AreaIn, AreaOut}
 use Rattle.com_events.specs.Calls.{IsWellFormed}
-use Rattle.com_state.specs.State.{State, unit_mode}
-use Rattle.com_state.specs.Queues.{Next, designated, next_rest, receive_next, receive, is_ready, with_status, counted_area, waiting_under}
-use Rattle.com_state.specs.Destinations.{terminal_with, destinations, known_of, is_unknown, is_on, with_error_key, with_error_keys, error_key, with_out_status, send, send_text, send_status, sent_text, is_nothing}
-use Rattle.com_state.specs.Switches.{switch_input, switch_output, switch_leaves, switch_terminal, switch_outputs, switch_status, is_key, is_key_of}
-use Rattle.com_net.specs.Numbers.{unit_number, terminal_number}
-use Rattle.com_state.specs.Steps.{step, unit_step, terminal_step, with_verb, with_reply, verb, receive_running, step_receive, is_waiting_for, is_running, may_do_verb}
 use Rattle.com_state.specs.Laws.{is_refusal, Tells, with_status_alone, ChangesStatusAlone}
 use Rattle.com_state.proofs.Frames.{option_cases, next_if-Some}
+use Rattle.com_state.specs.State.{State, destinations_of, unit_mode}
+use Rattle.com_state.specs.Answers.{is_ready, answered}
+use Rattle.com_state.specs.Switches.{is_key, switch_leaves, switch_terminal, switch_input}
+use Rattle.com_state.specs.Steps.{is_running, with_verb, may_do_verb, with_reply, receive_running, is_waiting_for, step_receive, verb, unit_step, terminal_step, step}
+use Rattle.com_recv.specs.Incoming.{designated, waiting_under}
+use Rattle.com_recv.specs.Receiving.{Next, count}
+use Rattle.com_recv.specs.Areas.{with_status}
+use Rattle.com_state.proofs.Verbs.{receive_in, receive_next_in, next_in, send_in, switch_output_in}
+use Rattle.com_send.specs.Outgoing.{Outgoing}
+use Rattle.com_send.specs.Found.{Found, destination_with, find_destinations, is_unknown, error_key, keyed, with_error_keys, with_status as with_status_out}
+use Rattle.com_send.specs.Sending.{is_nothing, sent_text, send_found, send_status, has_disabled}
+use Rattle.com_send.specs.Switching.{is_key_of_each, switch_found, switch_status}
+use Rattle.com_state.proofs.StepCases.{step_of_unit, step_of_terminal}
 
 -- what is written at a place is read there
 read_back : (area key : List ℕ) (at width : ℕ) → at ≤ length area → length key ≡ width
@@ -81,7 +88,7 @@ same_status one other e = sym (status_of_bytes one) ∙ (ap status_of e ∙ stat
 told_in : (area : List ℕ) (own status : Status) → 79 ≤ length area → in_field field.Status (with_status own area) ≡ status_bytes status → own ≡ status
 told_in area own status within e = same_status own status (sym (read_back area (status_bytes own) 79 2 within (two_bytes own)) ∙ e)
 
-told_out : (area : List ℕ) (own status : Status) → 8 ≤ length area → out_field out.Status (with_out_status own area) ≡ status_bytes status → own ≡ status
+told_out : (area : List ℕ) (own status : Status) → 8 ≤ length area → out_field out.Status (with_status_out own area) ≡ status_bytes status → own ≡ status
 told_out area own status within e = same_status own status (sym (read_back area (status_bytes own) 8 2 within (two_bytes own)) ∙ e)
 
 -- what a verb is answered and leaves, where that is a refusal, before it is counted
@@ -95,11 +102,11 @@ refused_in S call area own status alone within refusal tells =
     let same = told_in area own status within tells in
     (alone status ∙ ap (λ s. Some (AreaIn (with_status s area))) (sym same), refl)
 
-refused_out : (S : State) (call : Call) (area : List ℕ) (own status : Status) → ((s : Status) → with_status_alone call s ≡ Some (AreaOut (with_out_status s area))) → 8 ≤ length area
-    → Alone S call status (AreaOut (with_out_status own area), S)
+refused_out : (S : State) (call : Call) (area : List ℕ) (own status : Status) → ((s : Status) → with_status_alone call s ≡ Some (AreaOut (with_status_out s area))) → 8 ≤ length area
+    → Alone S call status (AreaOut (with_status_out own area), S)
 refused_out S call area own status alone within refusal tells =
     let same = told_out area own status within tells in
-    (alone status ∙ ap (λ s. Some (AreaOut (with_out_status s area))) (sym same), refl)
+    (alone status ∙ ap (λ s. Some (AreaOut (with_status_out s area))) (sym same), refl)
 
 -- a key that is none of the call's refusals tells no refusal
 other_key : (call : Call) (own status : Status) → is_refusal call own ≡ false → IsTrue (is_refusal call status) → own ≡ status → ⊥
@@ -110,30 +117,30 @@ other_key call own status other refusal same =
 done_in : (S next : State) (call : Call) (area : List ℕ) (own status : Status) → is_refusal call own ≡ false → 79 ≤ length area → Alone S call status (AreaIn (with_status own area), next)
 done_in S next call area own status other within refusal tells = absurd (other_key call own status other refusal (told_in area own status within tells))
 
-done_out : (S next : State) (call : Call) (area : List ℕ) (own status : Status) → is_refusal call own ≡ false → 8 ≤ length area → Alone S call status (AreaOut (with_out_status own area), next)
+done_out : (S next : State) (call : Call) (area : List ℕ) (own status : Status) → is_refusal call own ≡ false → 8 ≤ length area → Alone S call status (AreaOut (with_status_out own area), next)
 done_out S next call area own status other within refusal tells = absurd (other_key call own status other refusal (told_out area own status within tells))
 
 -- error keys leave the front of an area
-long_key : (found : List (Option ℕ)) (area : List ℕ) (at : ℕ) → 8 ≤ length area → 8 ≤ length (with_error_key found area at)
-long_key found area at h =
+long_key : (area : List ℕ) (at : ℕ) (destination : Option ℕ) → 8 ≤ length area → 8 ≤ length (keyed area (at, destination))
+long_key area at destination h =
     let front = take (10 + 13 * at) area in
-    let key = error_key (unwrap_or (slice_get found at) None) in
+    let key = error_key destination in
     let behind = drop (10 + 13 * at + 1) area in
     omega (arith, h, length-append (front ++ key) behind, length-append front key, length-take (10 + 13 * at) area)
 
-long_keys : (found : List (Option ℕ)) (places area : List ℕ) → 8 ≤ length area → 8 ≤ length (fold (with_error_key found) area places)
-long_keys found [] area h = h
-long_keys found (at ∷ places) area h = long_keys found places (with_error_key found area at) (long_key found area at h)
+long_keys : (found : List (ℕ × Option ℕ)) (area : List ℕ) → 8 ≤ length area → 8 ≤ length (fold keyed area found)
+long_keys [] area h = h
+long_keys ((at, destination) ∷ found) area h = long_keys found (keyed area (at, destination)) (long_key area at destination h)
 
 -- COUNT
-alone_count : (S : State) (area : List ℕ) (status : Status) → length area ≡ 87 → Alone S (made.Count area) status (AreaIn (counted_area S area), S)
-alone_count S area status whole = elim (option_cases (designated S.net area)) [
-  | inl none ↦ rw (none, counted_area) (refused_in S (made.Count area) area S20 status (λ s. refl) (omega (arith, whole)))
+alone_count : (S : State) (area : List ℕ) (status : Status) → length area ≡ 87 → Alone S (made.Count area) status (AreaIn (count S.net.tree S.incoming area), S)
+alone_count S area status whole = elim (option_cases (designated S.net.tree area)) [
+  | inl none ↦ rw (none, count) (refused_in S (made.Count area) area S20 status (λ s. refl) (omega (arith, whole)))
   | inr some ↦
-      let digits = in_digits (min (waiting_under S some.0) 999999) 6 in
+      let digits = in_digits (min (waiting_under S.net.tree S.incoming.waiting some.0) 999999) 6 in
       let long : 79 ≤ length (set_in field.Count area digits) =
       omega (arith, whole, length-append (take 81 area ++ digits) (drop 87 area), length-append (take 81 area) digits, length-take-le 81 area (omega (arith, whole))) in
-      rw (some.1, counted_area) (done_in S S (made.Count area) (set_in field.Count area digits) S00 status refl long)
+      rw (some.1, count) (done_in S S (made.Count area) (set_in field.Count area digits) S00 status refl long)
 ]
 
 -- ENABLE and DISABLE of input
@@ -153,76 +160,71 @@ alone_terminal S on area key terminal status whole = elim (cases_Bool (is_key ke
 
 alone_switch_input : (S : State) (on terminal : Bool) (area key : List ℕ) (status : Status) → length area ≡ 87
     → Alone S (made.SwitchInput on terminal area key) status (switch_input S on terminal area key)
-alone_switch_input S on false area key status whole = elim (option_cases (designated S.net area)) [
+alone_switch_input S on false area key status whole = elim (option_cases (designated S.net.tree area)) [
   | inl none ↦ rw (none, switch_input) (refused_in S (made.SwitchInput on false area key) area S20 status (λ s. refl) (omega (arith, whole)))
   | inr some ↦ rw (some.1, switch_input) (alone_leaves S on area key some.0 status whole)
 ]
-alone_switch_input S on true area key status whole = elim (option_cases (terminal_with S.net (in_field field.Source area))) [
+alone_switch_input S on true area key status whole = elim (option_cases (destination_with (destinations_of S.net) (in_field field.Source area))) [
   | inl none ↦ rw (none, switch_input) (refused_in S (made.SwitchInput on true area key) area S20 status (λ s. refl) (omega (arith, whole)))
   | inr some ↦ rw (some.1, switch_input) (alone_terminal S on area key some.0 status whole)
 ]
 
 -- ENABLE and DISABLE of output
-no_switch_refusal : (on : Bool) (area key : List ℕ) (found : List (Option ℕ)) → is_refusal (made.SwitchOutput on area key) (switch_status found) ≡ false
+no_switch_refusal : (on : Bool) (area key : List ℕ) (found : Found) → is_refusal (made.SwitchOutput on area key) (switch_status found) ≡ false
 no_switch_refusal on area key found = elim (cases_Bool (list_any is_unknown found)) [
   | inl some ↦ rw (some, switch_status) refl
   | inr none ↦ rw (none, switch_status) refl
 ]
 
-alone_outputs : (S : State) (on : Bool) (area key : List ℕ) (found : List (Option ℕ)) (status : Status) → 8 ≤ length area
-    → Alone S (made.SwitchOutput on area key) status (switch_outputs S on area key found)
-alone_outputs S on area key found status within = elim (cases_Bool (list_all (is_key_of S key) (known_of found))) [
-  | inl right ↦ rw (right, switch_outputs) (done_out S _ (made.SwitchOutput on area key) (with_error_keys found area) (switch_status found) status (no_switch_refusal on area key found)
-      (long_keys found (range_with_len 0 (length found)) area within))
-  | inr wrong ↦ rw (wrong, switch_outputs) (refused_out S (made.SwitchOutput on area key) area S40 status (λ s. refl) within)
+alone_found : (S : State) (on : Bool) (area key : List ℕ) (found : Option Found) (status : Status) → 8 ≤ length area
+    → Alone S (made.SwitchOutput on area key) status (answered S (switch_found (destinations_of S.net) S.outgoing on area key found))
+alone_found S on area key None status within = refused_out S (made.SwitchOutput on area key) area S30 status (λ s. refl) within
+alone_found S on area key (Some found) status within = elim (cases_Bool (is_key_of_each found key (destinations_of S.net))) [
+  | inl right ↦ rw (right, switch_found) (done_out S _ (made.SwitchOutput on area key) (with_error_keys found area) (switch_status found) status (no_switch_refusal on area key found)
+      (long_keys (enumerate_from 0 found) area within))
+  | inr wrong ↦ rw (wrong, switch_found) (refused_out S (made.SwitchOutput on area key) area S40 status (λ s. refl) within)
 ]
 
-alone_switch_output : (S : State) (on : Bool) (area key : List ℕ) (status : Status) → 8 ≤ length area → Alone S (made.SwitchOutput on area key) status (switch_output S on area key)
-alone_switch_output S on area key status within = elim (option_cases (destination_count area)) [
-  | inl none ↦ rw (none, switch_output) (refused_out S (made.SwitchOutput on area key) area S30 status (λ s. refl) within)
-  | inr some ↦ rw (some.1, switch_output) (alone_outputs S on area key (destinations S.net area some.0) status within)
-]
+alone_switch_output : (S : State) (on : Bool) (area key : List ℕ) (status : Status) → 8 ≤ length area → Alone S (made.SwitchOutput on area key) status (switch_output_in S on area key)
+alone_switch_output S on area key status within = alone_found S on area key (find_destinations (destinations_of S.net) area) status within
 
 -- SEND
-no_send_refusal : (S : State) (area : List ℕ) (part : Part) (item : Option (List ℕ)) (found : List (Option ℕ)) → is_refusal (made.Send area part item) (send_status S found) ≡ false
-no_send_refusal S area part item found = elim (cases_Bool (list_any is_unknown found)) [
+no_send_refusal : (outgoing : Outgoing) (area : List ℕ) (part : Part) (item : Option (List ℕ)) (found : Found) → is_refusal (made.Send area part item) (send_status found outgoing) ≡ false
+no_send_refusal outgoing area part item found = elim (cases_Bool (list_any is_unknown found)) [
   | inl some ↦ rw (some, send_status) refl
-  | inr none ↦ elim (cases_Bool (list_any (λ terminal. not (is_on S.output_on terminal)) (known_of found))) [
+  | inr none ↦ elim (cases_Bool (has_disabled found outgoing)) [
     | inl off ↦ rw (none, off, send_status) refl
     | inr on ↦ rw (none, on, send_status) refl
   ]
 ]
 
-alone_text : (S : State) (unit : ℕ) (area : List ℕ) (part : Part) (item text : Option (List ℕ)) (count : ℕ) (status : Status) → 8 ≤ length area
-    → Alone S (made.Send area part item) status (send_text S unit area part text count)
-alone_text S unit area part item None count status within = refused_out S (made.Send area part item) area S50 status (λ s. refl) within
-alone_text S unit area part item (Some text) count status within = elim (cases_Bool (is_nothing part text)) [
-  | inl nothing ↦ rw (nothing, send_text) (refused_out S (made.Send area part item) area S60 status (λ s. refl) within)
+alone_sent : (S : State) (unit : ℕ) (area : List ℕ) (part : Part) (item : Option (List ℕ)) (found : Option Found) (text : Option (List ℕ)) (status : Status) → 8 ≤ length area
+    → Alone S (made.Send area part item) status (answered S (send_found S.outgoing unit area part found text))
+alone_sent S unit area part item None text status within = refused_out S (made.Send area part item) area S30 status (λ s. refl) within
+alone_sent S unit area part item (Some found) None status within = refused_out S (made.Send area part item) area S50 status (λ s. refl) within
+alone_sent S unit area part item (Some found) (Some text) status within = elim (cases_Bool (is_nothing part text)) [
+  | inl nothing ↦ rw (nothing, send_found) (refused_out S (made.Send area part item) area S60 status (λ s. refl) within)
   | inr something ↦
-      let found = destinations S.net area count in
-      rw (something, send_text) (done_out S _ (made.Send area part item) (with_error_keys found area) (send_status S found) status (no_send_refusal S area part item found)
-      (long_keys found (range_with_len 0 (length found)) area within))
+      rw (something, send_found) (done_out S _ (made.Send area part item) (with_error_keys found area) (send_status found S.outgoing) status (no_send_refusal S.outgoing area part item found)
+      (long_keys (enumerate_from 0 found) area within))
 ]
 
-alone_send : (S : State) (unit : ℕ) (area : List ℕ) (part : Part) (item : Option (List ℕ)) (status : Status) → 8 ≤ length area → Alone S (made.Send area part item) status (send S unit area part item)
-alone_send S unit area part item status within = elim (option_cases (destination_count area)) [
-  | inl none ↦ rw (none, send) (refused_out S (made.Send area part item) area S30 status (λ s. refl) within)
-  | inr some ↦ rw (some.1, send) (alone_text S unit area part item (sent_text area item) some.0 status within)
-]
+alone_send : (S : State) (unit : ℕ) (area : List ℕ) (part : Part) (item : Option (List ℕ)) (status : Status) → 8 ≤ length area → Alone S (made.Send area part item) status (send_in S unit area part item)
+alone_send S unit area part item status within = alone_sent S unit area part item (find_destinations (destinations_of S.net) area) (sent_text area item) status within
 
 -- RECEIVE
 alone_next : (S : State) (unit : ℕ) (area : List ℕ) (kind : Kind) (size : ℕ) (no_data : Bool) (found : Option Next) (status : Status)
-    → Alone S (made.Receive area kind size no_data) status (receive_next S unit area kind size found)
+    → Alone S (made.Receive area kind size no_data) status (receive_next_in S unit area kind size found)
 alone_next S unit area kind size no_data None status refusal tells = absurd tells
 alone_next S unit area kind size no_data (Some next) status refusal tells = absurd tells
 
 alone_receive : (S : State) (unit : ℕ) (area : List ℕ) (kind : Kind) (size : ℕ) (no_data : Bool) (status : Status) → 79 ≤ length area
-    → Alone S (made.Receive area kind size no_data) status (receive S unit area kind size)
-alone_receive S unit area kind size no_data status within = elim (option_cases (designated S.net area)) [
-  | inl none ↦ rw (none, receive) (λ refusal tells.
+    → Alone S (made.Receive area kind size no_data) status (receive_in S unit area kind size)
+alone_receive S unit area kind size no_data status within = elim (option_cases (designated S.net.tree area)) [
+  | inl none ↦ rw (none, receive_in) (λ refusal tells.
       let same = told_in area S20 status within tells in
       (ap (λ s. Some (Refused (with_status s area))) (sym same), refl))
-  | inr some ↦ rw (some.1, receive) (alone_next S unit area kind size no_data (next_rest S unit some.0) status)
+  | inr some ↦ rw (some.1, receive_in) (alone_next S unit area kind size no_data (next_in S unit some.0) status)
 ]
 
 -- a verb more changes what is known of the units alone
@@ -249,8 +251,8 @@ by_verb S unit call status done reply next refusal h tells alone =
 by_running : (S : State) (unit : ℕ) (area : List ℕ) (kind : Kind) (size : ℕ) (no_data : Bool) (status : Status) (reply : Reply) (next : State) → 79 ≤ length area
     → IsTrue (is_refusal (made.Receive area kind size no_data) status) → receive_running S unit area kind size no_data ≡ (reply, next) → Tells reply status
     → ChangesStatusAlone S (made.Receive area kind size no_data) status reply next
-by_running S unit area kind size no_data status reply next within refusal h tells = elim (cases_Bool ((no_data || is_none (designated S.net area)) || is_ready S unit area)) [
-  | inl now ↦ after_verb S unit (made.Receive area kind size no_data) status (receive S unit area kind size) reply next refusal (rw (now, receive_running) at h) tells (alone_receive S unit area kind size no_data status within)
+by_running S unit area kind size no_data status reply next within refusal h tells = elim (cases_Bool ((no_data || is_none (designated S.net.tree area)) || is_ready S unit area)) [
+  | inl now ↦ after_verb S unit (made.Receive area kind size no_data) status (receive_in S unit area kind size) reply next refusal (rw (now, receive_running) at h) tells (alone_receive S unit area kind size no_data status within)
   | inr later ↦
       let waits = rw (later, receive_running) at h in
       absurd (subst (λ (p : Reply × State). Tells p.0 status) (sym waits) tells)
@@ -263,7 +265,7 @@ by_receive S unit area kind size no_data status reply next within refusal h tell
   | inl runs ↦ by_running S unit area kind size no_data status reply next within refusal (same_Some _ _ (rw (runs, step_receive) at h)) tells
   | inr waits ↦
       let resumed = rw (waits, step_receive) at h in
-      after_verb S unit (made.Receive area kind size no_data) status (receive S unit area kind size) reply next refusal
+      after_verb S unit (made.Receive area kind size no_data) status (receive_in S unit area kind size) reply next refusal
       (next_if-Some (is_waiting_for (unit_mode S unit) area kind size no_data && is_ready S unit area) _ _ resumed) tells (alone_receive S unit area kind size no_data status within)
 ]
 
@@ -274,13 +276,13 @@ by_unit S unit (made.Receive area kind size no_data) status reply next formed re
   | inr done ↦ absurd (none-some (reply, next) (rw (done, unit_step) at h))
 ]
 by_unit S unit (made.Count area) status reply next formed refusal h tells =
-    by_verb S unit (made.Count area) status (AreaIn (counted_area S area), S) reply next refusal h tells (alone_count S area status formed.length)
+    by_verb S unit (made.Count area) status (AreaIn (count S.net.tree S.incoming area), S) reply next refusal h tells (alone_count S area status formed.length)
 by_unit S unit (made.Send area part item) status reply next formed refusal h tells =
-    by_verb S unit (made.Send area part item) status (send S unit area part item) reply next refusal h tells (alone_send S unit area part item status (omega (arith, formed.0.whole)))
+    by_verb S unit (made.Send area part item) status (send_in S unit area part item) reply next refusal h tells (alone_send S unit area part item status (omega (arith, formed.0.whole)))
 by_unit S unit (made.SwitchInput on terminal area key) status reply next formed refusal h tells =
     by_verb S unit (made.SwitchInput on terminal area key) status (switch_input S on terminal area key) reply next refusal h tells (alone_switch_input S on terminal area key status formed.0.length)
 by_unit S unit (made.SwitchOutput on area key) status reply next formed refusal h tells =
-    by_verb S unit (made.SwitchOutput on area key) status (switch_output S on area key) reply next refusal h tells (alone_switch_output S on area key status (omega (arith, formed.0.whole)))
+    by_verb S unit (made.SwitchOutput on area key) status (switch_output_in S on area key) reply next refusal h tells (alone_switch_output S on area key status (omega (arith, formed.0.whole)))
 by_unit S unit made.Start status reply next formed refusal h tells = absurd (false≢true refusal)
 by_unit S unit (made.Stop reason) status reply next formed refusal h tells = absurd (false≢true refusal)
 by_unit S unit (made.Arrive stamp message) status reply next formed refusal h tells = absurd (false≢true refusal)
@@ -304,11 +306,9 @@ no_terminal S terminal name (made.Finish reason) status reply next refusal h = a
 -- a refused call changes the status key alone
 pub status_alone : (S next : State) (who : Party) (call : Call) (reply : Reply) (status : Status) → IsWellFormed call → IsTrue (is_refusal call status)
     → step S who call ≡ Some (reply, next) → Tells reply status → ChangesStatusAlone S call status reply next
-status_alone S next (party.Unit name) call reply status formed refusal h tells = elim (option_cases (unit_number S.net name)) [
-  | inl none ↦ absurd (none-some (reply, next) (rw (none, step) at h))
-  | inr some ↦ by_unit S some.0 call status reply next formed refusal (rw (some.1, step) at h) tells
-]
-status_alone S next (party.Terminal name) call reply status formed refusal h tells = elim (option_cases (terminal_number S.net name)) [
-  | inl none ↦ absurd (none-some (reply, next) (rw (none, step) at h))
-  | inr some ↦ absurd (no_terminal S some.0 name call status reply next refusal (rw (some.1, step) at h))
-]
+status_alone S next (party.Unit name) call reply status formed refusal h tells =
+    let its = step_of_unit S name call reply next h in
+    by_unit S its.0 call status reply next formed refusal its.2 tells
+status_alone S next (party.Terminal name) call reply status formed refusal h tells =
+    let its = step_of_terminal S name call reply next h in
+    absurd (no_terminal S its.0 name call status reply next refusal its.2)

@@ -1,5 +1,5 @@
 -- What a step leaves as it was, for the laws on all states.
-use Rattle.std.specs.Prelude.{◌≡◌, ℕ, ◌≤◌, ◌⊎◌, Bool, true, false, ◌==◌, List, length, Option, Some, None}
+use Rattle.std.specs.Prelude.{◌≡◌, ℕ, ◌≤◌, ◌⊎◌, Bool, true, false, ◌==◌, List, [], length, Option, Some, None, option_map, slice_get, unwrap_or}
 use Rattle.std.specs.List.{filter}
 use Rattle.com_events.specs.declared.call.Call.{Call}
 use Rattle.com_events.specs.declared.call.Call.TheVariants.{Receive, Count, Send, SwitchInput, SwitchOutput, Arrive}
@@ -12,7 +12,9 @@ use Rattle.com_cd.specs.declared.status.Status.{Status}
 use Rattle.com_cd.specs.declared.status.Status.TheVariants.{S20, S30, S40, S50, S60}
 use Rattle.com_cd.specs.declared.input_area.InField.TheVariants as field
 use Rattle.com_cd.specs.declared.output_area.OutField.TheVariants as out
-use Rattle.com_state.specs.State.{State, Held, Begun, Finished}
+use Rattle.com_msg.specs.declared.sending.OutMessage.{OutMessage}
+use Rattle.com_recv.specs.declared.lists.Held.{Held}
+use Rattle.com_state.specs.State.{State}
 use Rattle.com_state.specs.Wholeness.{IsPrefixOf}
 
 -- ARRIVE
@@ -27,21 +29,18 @@ enables_output _ = false
 
 -- what a unit holds
 abbrev pub rests_of : State → ℕ → List Held
-rests_of S unit = filter (λ h. h.unit == unit) S.held
-
--- what a unit has begun to send
-abbrev pub begun_of : State → ℕ → List Begun
-begun_of S unit = filter (λ b. b.unit == unit) S.begun
+rests_of S unit = filter (λ h. h.unit == unit) S.incoming.held
 
 -- what is queued for a terminal
-abbrev pub queue_for : State → ℕ → List Finished
-queue_for S terminal = filter (λ finished. finished.destination == terminal) S.queued
+abbrev pub queue_for : State → ℕ → List OutMessage
+queue_for S terminal =
+    unwrap_or (option_map (λ destination. destination.queued) (slice_get S.outgoing terminal)) []
 
 -- What holds of each step: the net stays, only ARRIVE makes more messages wait, and only ENABLE
 -- OUTPUT takes a message out of what is queued for a terminal.
 pub record Keeps (S : State) (call : Call) (next : State) : Type 0 where
   pub net : next.net ≡ S.net
-  pub waiting : (is_arrival call ≡ true) ⊎ (length next.waiting ≤ length S.waiting)
+  pub waiting : (is_arrival call ≡ true) ⊎ (length next.incoming.waiting ≤ length S.incoming.waiting)
   pub queued : (enables_output call ≡ true)
       ⊎ ((terminal : ℕ) → IsPrefixOf (queue_for S terminal) (queue_for next terminal))
 

@@ -1,13 +1,8 @@
 pub mod State
-pub mod Queues
-pub mod Destinations
+pub mod Answers
 pub mod Switches
 pub mod Steps
 pub mod Histories
 pub mod Wholeness
 pub mod Transcripts
 pub mod Laws
-pub mod Rows
-pub mod FurtherRows
-pub mod OutputRows
-pub mod WholenessRows

@@ -1,6 +1,7 @@
 -- What holds of every legal history: messages are handed out whole, to one unit each, and in order.
-use Rattle.std.specs.Prelude.{◌≡◌, ℕ, ◌+◌, ◌-◌, ◌⊎◌, Bool, true, false, not, ◌&&◌, ◌||◌, ◌==◌, nat_le, List, [], ◌∷◌, ◌++◌, length, map, Option, Some, None, option_map, option_and_then, slice_get, IsTrue}
-use Rattle.std.specs.List.{concat, filter, filter_map, list_all, list_any, cons_option, range_with_len}
+use Rattle.std.specs.Prelude.{◌≡◌, ℕ, ◌+◌, ◌⊎◌, Bool, true, false, not, ◌&&◌, ◌||◌, ◌==◌, List, [], ◌∷◌, ◌++◌, map, Option, Some, None, option_map, option_and_then, slice_get, IsTrue}
+use Rattle.std.specs.List.{concat, filter, list_all, list_any, cons_option}
+use Rattle.std.specs.Option.{option_to_list}
 use Rattle.std.specs.Str.{bytes_eq}
 use Rattle.com_msg.specs.declared.message.RawMessage.{RawMessage}
 use Rattle.com_msg.specs.declared.message.End.TheVariants.{Emi, Egi}
@@ -12,10 +13,12 @@ use Rattle.com_events.specs.declared.call.Party.TheVariants as party
 use Rattle.com_events.specs.declared.call.Call.{Call}
 use Rattle.com_events.specs.declared.call.Call.TheVariants.{Receive, Arrive, Stop, Finish}
 use Rattle.com_events.specs.declared.reply.Reply.{Reply}
-use Rattle.com_events.specs.declared.reply.Reply.TheVariants.{Given}
+use Rattle.com_events.specs.declared.reply.Reply.TheVariants.{Given, Arrived}
 use Rattle.com_events.specs.declared.entry.Entry.{Entry}
-use Rattle.com_state.specs.State.{State, stopped, opening, unit_mode}
-use Rattle.com_state.specs.Queues.{Next, designated, next_rest}
+use Rattle.com_recv.specs.Incoming.{designated}
+use Rattle.com_recv.specs.Receiving.{Next, next_rest}
+use Rattle.com_state.specs.declared.parties.UnitMode.TheVariants.{Stopped}
+use Rattle.com_state.specs.State.{State, opening, unit_mode}
 use Rattle.com_net.specs.Numbers.{unit_number, terminal_number}
 use Rattle.com_state.specs.Steps.{step, feed_of}
 use Rattle.com_state.specs.Histories.{Legal, LeadsTo}
@@ -42,11 +45,12 @@ handed_of unit kind size text next = record {
   end_key = (take_portion kind size next.rest).0.end_key;
 }
 
--- From: what an entry hands out, by what RECEIVE goes on with in the state before it
+-- what an entry hands out, by what RECEIVE goes on with in the state before it
 abbrev pub handed_by : State → Party → Call → Reply → Option HandedOut
 handed_by S (party.Unit name) (Receive area kind size no_data) (Given given text) =
     option_and_then (λ unit. option_map (handed_of unit kind size text)
-    (option_and_then (next_rest S unit) (designated S.net area))) (unit_number S.net name)
+    (option_and_then (next_rest S.net.tree S.incoming unit) (designated S.net.tree area)))
+    (unit_number S.net name)
 handed_by S _ _ _ = None
 
 -- all portions of a history, in order
@@ -63,17 +67,29 @@ abbrev pub portions_of : Net → List Entry → ℕ → List HandedOut
 portions_of net history arrival =
     filter (λ portion. portion.arrival == arrival) (all_handed (opening net) history)
 
--- the message that a call brings, beside its leaf
-abbrev pub arrival_by : Net → Party → Call → Option (ℕ × RawMessage)
-arrival_by net (party.Terminal name) (Arrive stamp message) =
-    option_and_then
-    (λ terminal. option_map (λ feed. (feed.leaf.number, message)) (feed_of net terminal))
-    (terminal_number net name)
-arrival_by net _ _ = None
+-- a message that has arrived: its number among all arrivals, the leaf that it waits on, and what it is
+pub record Arrival : Type 0 where
+  pub number : ℕ
+  pub leaf : ℕ
+  pub message : RawMessage
+
+-- the messages that an entry brings, in the order of their numbers
+abbrev pub arrived_by : State → Party → Call → Reply → List Arrival
+arrived_by S (party.Terminal name) (Arrive stamp message) (Arrived number) = option_to_list
+    (option_map (λ feed. record {
+      number = number;
+      leaf = feed.leaf.number;
+      message = message;
+    }) (option_and_then (feed_of S.net) (terminal_number S.net name)))
+arrived_by S _ _ _ = []
 
 -- all arrivals of a history, in order
-abbrev pub arrivals_of : Net → List Entry → List (ℕ × RawMessage)
-arrivals_of net history = filter_map (λ entry. arrival_by net entry.party entry.call) history
+abbrev pub all_arrived : State → List Entry → List Arrival
+all_arrived S [] = []
+all_arrived S (entry ∷ entries) = elim (step S entry.party entry.call) [
+  | None ↦ []
+  | Some next ↦ arrived_by S entry.party entry.call entry.reply ++ all_arrived next.1 entries
+]
 
 -- an end key that ends a message
 abbrev pub is_last_key : ℕ → Bool
@@ -99,8 +115,8 @@ IsGivenWhole portions message =
 -- the unit holds what is left of the message, or has stopped
 abbrev pub IsLeftWith : State → ℕ → ℕ → Type 0
 IsLeftWith S unit arrival =
-    IsTrue (list_any (λ h. h.unit == unit && h.rest.arrival == arrival) S.held)
-    ⊎ (unit_mode S unit ≡ Some stopped)
+    IsTrue (list_any (λ h. h.unit == unit && h.rest.arrival == arrival) S.incoming.held)
+    ⊎ (unit_mode S unit ≡ Some Stopped)
 
 -- The portions of one message: all of one unit, a prefix of the message, and the whole of it unless
 -- the unit still holds the rest or has stopped.
@@ -117,35 +133,32 @@ IsWholeMessage S arrival message [] = Unit {0}
 IsWholeMessage S arrival message (portion ∷ portions) =
     IsHandedTo S arrival message (portion ∷ portions) portion.unit
 
--- the number is one of so many arrivals
-abbrev pub is_arrived : ℕ → ℕ → Bool
-is_arrived arrival count = nat_le 1 arrival && nat_le arrival count
+-- the message of a portion is one of these arrivals
+abbrev pub has_arrived : List Arrival → HandedOut → Bool
+has_arrived arrivals portion = list_any (λ arrival. arrival.number == portion.arrival) arrivals
 
--- Whole: no portion stands before its message has arrived, and each message is handed out whole
+-- Whole: the arrivals are numbered from 1 in their order, no portion stands before its message has
+-- arrived, and each message is handed out whole
 pub record Whole (net : Net) (history : List Entry) : Type 0 where
+  pub numbered : (n : ℕ) (arrival : Arrival) →
+      slice_get (all_arrived (opening net) history) n ≡ Some arrival → arrival.number ≡ n + 1
   pub arrived : (before after : List Entry) → history ≡ before ++ after →
-      IsTrue (list_all (λ portion. is_arrived portion.arrival (length (arrivals_of net before)))
+      IsTrue (list_all (has_arrived (all_arrived (opening net) before))
       (all_handed (opening net) before))
-  pub messages : (last : State) → LeadsTo (opening net) history last → (n : ℕ) (leaf : ℕ)
-      (message : RawMessage) →
-      slice_get (arrivals_of net history) n ≡ Some (leaf, message) →
-      IsWholeMessage last (n + 1) message (portions_of net history (n + 1))
+  pub messages : (last : State) → LeadsTo (opening net) history last →
+      (n : ℕ) (arrival : Arrival) →
+      slice_get (all_arrived (opening net) history) n ≡ Some arrival →
+      IsWholeMessage last arrival.number arrival.message (portions_of net history arrival.number)
 
 -- the numbers in a list, each once, in the order in which they first come
 abbrev pub each_once : List ℕ → List ℕ
 each_once [] = []
 each_once (n ∷ numbers) = n ∷ filter (λ other. not (other == n)) (each_once numbers)
 
--- the arrival is on this leaf
-abbrev pub is_arrival_on : ℕ → Option (ℕ × RawMessage) → Bool
-is_arrival_on leaf None = false
-is_arrival_on leaf (Some arrival) = arrival.0 == leaf
-
--- the arrival numbers, from 1, of the messages of a leaf, in order
-abbrev pub numbers_on : ℕ → List (ℕ × RawMessage) → List ℕ
+-- the arrival numbers of the messages of a leaf, in order
+abbrev pub numbers_on : ℕ → List Arrival → List ℕ
 numbers_on leaf arrivals =
-    filter (λ n. is_arrival_on leaf (slice_get arrivals (n - 1)))
-    (range_with_len 1 (length arrivals))
+    map (λ arrival. arrival.number) (filter (λ arrival. arrival.leaf == leaf) arrivals)
 
 -- InOrder: the messages of a leaf that have a portion are the first of its arrivals, and their
 -- first portions come in that order
@@ -153,7 +166,7 @@ abbrev pub InOrder : Net → List Entry → Type 0
 InOrder net history = (leaf : ℕ) → IsPrefixOf
     (each_once (map (λ portion. portion.arrival)
     (filter (λ portion. portion.leaf == leaf) (all_handed (opening net) history))))
-    (numbers_on leaf (arrivals_of net history))
+    (numbers_on leaf (all_arrived (opening net) history))
 
 -- a STOP of the unit of this name
 abbrev pub is_stop : List ℕ → Party → Call → Bool
@@ -179,7 +192,7 @@ pub record Complete (net : Net) (history : List Entry) : Type 0 where
   pub terminals : IsTrue
       (list_all (λ terminal. list_any (is_end_of terminal.name) history) net.terminals)
 
--- the law of every legal history
+-- every legal history is so
 abbrev pub EveryHistoryIsWhole : Type 0
 EveryHistoryIsWhole =
     (net : Net) (history : List Entry) → Legal net history → Whole net history × InOrder net history

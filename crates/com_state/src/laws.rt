@@ -10,11 +10,16 @@ ghost use Rattle.com_events.specs.declared.reply.Reply.{Reply as ReplyOf};
 ghost use Rattle.com_events.specs.declared.reply.Reply.TheVariants as reply;
 ghost use Rattle.com_events.specs.Calls.{IsWellFormed};
 ghost use Rattle.com_cd.specs.declared.status.Status.{Status as StatusOf};
+ghost use Rattle.com_msg.specs.Begun.{Begun as BegunOf, nothing_begun};
+ghost use Rattle.com_send.specs.Outgoing.{begun_for};
 ghost use Rattle.com_state.specs.State.{State as SystemState};
+ghost use Rattle.com_net.specs.declared.net.Net.{Net as NetOf};
+ghost use Rattle.com_events.specs.declared.entry.Entry.{Entry as EntryOf};
 ghost use Rattle.com_net.specs.Numbers.{unit_number};
+ghost use Rattle.com_state.specs.Histories.{Legal, IsRun};
 ghost use Rattle.com_state.specs.Steps.{step};
 ghost use Rattle.com_state.specs.Wholeness.{EveryHistoryIsWhole};
-ghost use Rattle.com_state.specs.Laws.{Keeps, rests_of, begun_of, is_refusal, Tells, ChangesStatusAlone};
+ghost use Rattle.com_state.specs.Laws.{Keeps, rests_of, is_refusal, Tells, ChangesStatusAlone};
 
 /// Every step leaves the network; only ARRIVE makes more messages wait; and what is queued for a
 /// terminal is still queued behind it, but for ENABLE OUTPUT.
@@ -37,7 +42,9 @@ pub fn nothing_is_left_of_a_stopped_unit()
     ensures { (S next : SystemState) (name : List ℕ) (unit : ℕ) (reason : ReasonOf)
         (reply : ReplyOf) → unit_number S.net name ≡ Some unit →
         step S (party.Unit name) (made.Stop reason) ≡ Some (reply, next) →
-        (rests_of next unit ≡ []) × (begun_of next unit ≡ []) }
+        (rests_of next unit ≡ [])
+        × ((terminal : ℕ) (begun : BegunOf) → begun_for next.outgoing unit terminal ≡ Some begun →
+        begun ≡ nothing_begun) }
 {}
 
 /// A call that is refused changes the status key of its area, and nothing else there: RECEIVE and
@@ -64,11 +71,18 @@ pub fn others_are_left_by_a_stop()
     ensures { (S next : SystemState) (name : List ℕ) (unit other : ℕ) (reason : ReasonOf)
         (reply : ReplyOf) → unit_number S.net name ≡ Some unit → other ≢ unit →
         step S (party.Unit name) (made.Stop reason) ≡ Some (reply, next) →
-        (rests_of next other ≡ rests_of S other) × (begun_of next other ≡ begun_of S other) }
+        (rests_of next other ≡ rests_of S other) × ((terminal : ℕ) →
+        begun_for next.outgoing other terminal ≡ begun_for S.outgoing other terminal) }
 {}
 
 /// Every legal history hands messages out whole, each to one unit, and in the order of arrival on
 /// each leaf.
 pub fn every_history_is_whole()
     ensures { EveryHistoryIsWhole }
+{}
+
+/// A history is legal just where its calls get its replies.
+pub fn shown_is_legal()
+    ensures legal { (net : NetOf) (history : List EntryOf) → IsRun net history → Legal net history }
+    ensures shown { (net : NetOf) (history : List EntryOf) → Legal net history → IsRun net history }
 {}

@@ -1,5 +1,5 @@
-//! Tests of lists, networks, queues and the outside, where no table of cases serves: each public call
-//! with ample memory.
+//! Tests of lists, networks and the outside, where no table of cases serves: each public call with
+//! ample memory.
 #![tactic(auto)]
 
 #[cfg(test)]
@@ -8,8 +8,6 @@ mod folders;
 mod lists;
 #[cfg(test)]
 mod nets;
-#[cfg(test)]
-mod queues;
 #[cfg(test)]
 mod sources;
 #[cfg(test)]

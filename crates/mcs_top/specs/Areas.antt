@@ -5,7 +5,7 @@ use Rattle.com_text.specs.Digits.{in_digits}
 use Rattle.com_msg.specs.declared.message.Message.{Message}
 use Rattle.com_msg.specs.declared.rest.Portion.{Portion}
 use Rattle.com_cd.specs.Designation.{path_fields}
-use Rattle.com_state.specs.Queues.{with_origin, with_text}
+use Rattle.com_recv.specs.Areas.{with_origin, with_text}
 
 -- the four names of an area are those of the queue alone
 abbrev pub is_named : List ℕ → List ℕ → Bool

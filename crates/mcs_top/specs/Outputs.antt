@@ -2,7 +2,7 @@
 use Rattle.std.specs.Prelude.{◌≡◌, ℕ, Bool, true, false, List, [], ◌∷◌, ◌++◌, length, Option, option_map, codes, decimal, count_by}
 use Rattle.com_io.specs.declared.store.StoreFault.{StoreFault}
 use Rattle.com_io.specs.Stores.{Contents, Writing, output_name, with_output, IsUndone}
-use Rattle.com_state.specs.State.{Finished}
+use Rattle.com_msg.specs.declared.sending.OutMessage.{OutMessage}
 use Rattle.com_state.specs.Transcripts.{sent_by, transcript_of}
 use Rattle.mcs_top.specs.declared.net.Net.{Net}
 use Rattle.mcs_top.specs.declared.events.Reply.{Reply}
@@ -41,7 +41,7 @@ count_lines arrivals portions transmitted =
     ++ (count_line (codes "portions ") portions ++ count_line (codes "transmitted ") transmitted)
 
 -- all that the history transmits
-abbrev pub transmitted : Net → List Entry → List Finished
+abbrev pub transmitted : Net → List Entry → List OutMessage
 transmitted net history = sent_by (model_net net) (model_history history)
 
 -- No call that is built so far sends, so the history transmits nothing.

@@ -5,7 +5,13 @@ use Rattle.std.specs.Str.{bytes_eq}
 use Rattle.com_text.specs.Text.{IsText}
 use Rattle.com_cd.specs.InputArea.{IsInputArea}
 use Rattle.com_msg.specs.declared.message.Message.{Message}
-use Rattle.com_state.specs.State.{State, Waiting, Held, UnitMode, dormant, running, feeding}
+use Rattle.com_msg.specs.Begun.{nothing_begun}
+use Rattle.com_recv.specs.declared.lists.Waiting.{Waiting}
+use Rattle.com_recv.specs.declared.lists.Held.{Held}
+use Rattle.com_state.specs.declared.parties.UnitMode.{UnitMode}
+use Rattle.com_state.specs.declared.parties.UnitMode.TheVariants as unit_mode
+use Rattle.com_state.specs.declared.parties.TerminalMode.TheVariants.{Feeding}
+use Rattle.com_state.specs.State.{State}
 use Rattle.com_state.specs.Steps.{step}
 use Rattle.mcs_top.specs.declared.net.Net.{Net}
 use Rattle.mcs_top.specs.declared.system.Mode.{Mode}
@@ -21,33 +27,29 @@ use Rattle.mcs_top.specs.declared.events.Reply.TheVariants.{Started, Given, NoDa
 use Rattle.mcs_top.specs.Model.{model_net, model_party, model_call, model_reply}
 
 abbrev pub model_mode : Mode → UnitMode
-model_mode Dormant = dormant
-model_mode Running = running
+model_mode Dormant = unit_mode.Dormant
+model_mode Running = unit_mode.Running
 
 -- all messages wait on the one leaf
 abbrev pub waiting_on_leaf : Message → Waiting
-waiting_on_leaf message = record { leaf = 0; message = message }
+waiting_on_leaf message = record { leaf = record { number = 0 }; message = message }
 
 -- what the one unit holds from the one leaf
 abbrev pub held_list : Option Message → List Held
 held_list None = []
-held_list (Some rest) = record { unit = 0; leaf = 0; rest = rest } ∷ []
+held_list (Some rest) = record { unit = 0; leaf = record { number = 0 }; rest = rest } ∷ []
 
 -- the state of the one unit, the one leaf and the one terminal
 abbrev pub one_state : Net → List Message → Option Message → ℕ → Mode → ℕ → State
 one_state net waiting held arrivals mode verbs = record {
   net = model_net net;
-  waiting = map waiting_on_leaf waiting;
-  held = held_list held;
-  begun = [];
-  queued = [];
-  sent = [];
+  incoming = record { waiting = map waiting_on_leaf waiting; held = held_list held };
+  outgoing = record { on = true; begun = nothing_begun ∷ []; queued = []; sent = [] } ∷ [];
   leaf_on = true ∷ [];
   input_on = true ∷ [];
-  output_on = true ∷ [];
   arrivals = arrivals;
   units = record { mode = model_mode mode; verbs = verbs } ∷ [];
-  terminals = record { mode = feeding; arrivals = arrivals } ∷ [];
+  terminals = record { mode = Feeding; arrivals = arrivals } ∷ [];
 }
 
 abbrev pub state_of : System → State

@@ -5,7 +5,7 @@ ghost use Rattle.com_text.specs.Text.{IsText};
 ghost use Rattle.com_text.specs.Digits.{in_digits};
 ghost use Rattle.com_cd.specs.InputArea.{IsInputArea};
 ghost use Rattle.com_cd.specs.declared.status.Status.TheVariants.{S20};
-ghost use Rattle.com_state.specs.Queues.{no_data_area, with_status, with_origin, with_text};
+ghost use Rattle.com_recv.specs.Areas.{no_data_area, with_status, with_origin, with_text};
 ghost use Rattle.mcs_top.specs.Areas.{is_named, given_area, with_path};
 
 use com_cd::{Designation, InArea, InField, Status};

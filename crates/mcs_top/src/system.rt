@@ -3,7 +3,8 @@ ghost use Rattle.std.specs.Prelude.{◌≡◌, ◌≤◌, length, [], option_map
 ghost use Rattle.mcs_top.specs.declared.events.Party.TheVariants as party;
 ghost use Rattle.mcs_top.specs.declared.events.Call.TheVariants as made;
 ghost use Rattle.com_state.specs.State.{opening};
-ghost use Rattle.com_state.specs.Queues.{give};
+ghost use Rattle.com_recv.specs.Receiving.{give};
+ghost use Rattle.com_state.specs.Answers.{received};
 ghost use Rattle.mcs_top.specs.Model.{model_net, model_reply};
 ghost use Rattle.mcs_top.specs.SystemState.{state_of, is_dormant, is_running, may_do_verb, first_rest, rest_held, DoesStep, IsReply, IsWellFormed, HasSegment, HasSegments};
 
@@ -161,8 +162,7 @@ impl<'a> System<'a> {
         ensures rest { option_map (λ rest. (rest, self.new.waiting.items)) result
             ≡ first_rest self.old.held self.old.waiting.items }
         ensures left { state_of self.new ≡ record (state_of self.old) {
-          waiting = (state_of self.new).waiting;
-          held = [];
+          incoming = record { waiting = (state_of self.new).incoming.waiting; held = [] };
         } }
         ensures none_held { self.new.held ≡ None }
         ensures none { IfNone result (state_of self.new ≡ state_of self.old) }
@@ -191,8 +191,9 @@ impl<'a> System<'a> {
         requires none_held { self.old.held ≡ None }
         requires segments { HasSegments self.old }
         ensures given { IfOk result (λ reply. (model_reply reply, state_of self.new)
-            ≡ give (state_of self.old) 0 area.now kind size
-            (record { leaf = 0; rest = rest; waiting = (state_of self.old).waiting })) }
+            ≡ received (state_of self.old) (give (state_of self.old).net.tree
+            (state_of self.old).incoming 0 area.now kind size
+            (record { leaf = 0; rest = rest; waiting = (state_of self.old).incoming.waiting }))) }
         ensures valid { IfOk result IsReply }
         ensures segments { OnOk result (HasSegments self.new) }
         ensures memory { IfErr result (λ fault. fault ≡ CallFault.Memory) }

@@ -12,4 +12,4 @@ returns c =
     let three : length (level_field names 2) ≡ 12 = rw shown at (ap length (sym c.field_at-3.ensures.field) ∙ c.field_at-3.ensures.width) in
     c.set-4.ensures.area
     ∙ rw (c.set-3.ensures.area, c.set-2.ensures.area, c.set.ensures.area, c.field_at.ensures.field, c.field_at-2.ensures.field, c.field_at-3.ensures.field, c.field_at-4.ensures.field, shown)
-    (names_written names c.args.area c.names-names.ensures.some c.names-names.ensures.few one two three)
+    (names_written names c.args.area c.names-names.ensures.not_empty c.names-names.ensures.few one two three)

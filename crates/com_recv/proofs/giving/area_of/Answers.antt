@@ -5,5 +5,5 @@ use Rattle.com_recv.proofs.giving.area_of.Goals as goal
 
 pub returns : goal.returns
 returns c =
-    let path : c.path.result ≡ path_of_leaf c.args.tree.now c.args.leaf = ap (λ found. unwrap_or found []) (sym c.path.ensures) in
+    let path : c.path.result ≡ path_of_leaf c.args.tree.now c.args.leaf.number = ap (λ found. unwrap_or found []) (sym c.path.ensures) in
     c.given_area.ensures ∙ ap (λ names. given_fields names c.args.rest.now c.args.portion.now c.args.area) path

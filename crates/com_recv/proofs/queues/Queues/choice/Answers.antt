@@ -1,14 +1,21 @@
-use Rattle.std.proofs.Common.{refl, ap, ◌∙◌}
-use Rattle.std.specs.Prelude.{option_map}
+use Rattle.std.proofs.Common.{◌<◌, refl, sym, ap, ◌∙◌}
+use Rattle.std.specs.Prelude.{option_map, is_some}
 use Rattle.std.specs.List.{All}
+use Rattle.com_tree.specs.declared.tree.Leaf.{Leaf}
+use Rattle.com_recv.proofs.Awaited.{chosen_where_awaited}
+use Rattle.com_recv.proofs.Receiving.{some_message}
 use Rattle.com_recv.proofs.Choosing.{chosen_by_heads}
-use Rattle.com_recv.specs.Queued.{IsOnLeaf}
 use Rattle.com_recv.proofs.queues.Queues.choice.Goals as goal
 
-pub returns : goal.returns
-returns c =
-    let inside = c.self.inside in
-    let all : All (λ w. IsOnLeaf inside.leaves w.leaf w.message) c.deref.result.now = rw c.deref.ensures.value c.self.invariant.waiting in
+pub returns-clause-leaf : goal.returns-clause-leaf
+returns-clause-leaf c =
+    let tree = c.args.tree.now in
+    let all : All (λ w. w.leaf.number < c.leaves.result) c.deref.result.now = rw (c.deref.ensures.value, c.leaves.ensures.leaves) (rw (← c.self.view_is) at c.requires.tree.waiting) in
     ap (option_map (λ leaf. leaf.number)) c.next.ensures.leaf
-    ∙ (chosen_by_heads c.args.tree.now c.deref.result.now c.args.node c.heads_of-heads.result inside.leaves c.heads_of-heads.ensures c.self.invariant.few all
+    ∙ (chosen_by_heads tree c.deref.result.now c.args.node c.heads_of-heads.result c.leaves.result c.heads_of-heads.ensures c.leaves.ensures.few all
     ∙ rw (c.deref.ensures.value, ← c.self.view_is) refl)
+
+pub returns-clause-some : goal.returns-clause-some
+returns-clause-some c =
+    sym (some_message (λ (leaf : Leaf). leaf.number) c.next.result)
+    ∙ (ap is_some (returns-clause-leaf c) ∙ chosen_where_awaited c.args.tree.now c.args.self.now.waiting c.args.node c.requires.tree.written c.requires.node)

@@ -1,6 +1,6 @@
 use Rattle.std.proofs.Common.{◌≡◌, refl, ap, ◌∙◌}
 use Rattle.com_recv.specs.Areas.{counted_area}
-use Rattle.com_recv.specs.Queued.{waiting_under}
+use Rattle.com_recv.specs.Incoming.{waiting_under}
 use Rattle.com_recv.specs.Receiving.{count_at}
 use Rattle.com_recv.proofs.queues.Queues.count.Goals as goal
 

@@ -4,7 +4,7 @@ use Rattle.mcs_top.specs.declared.system.CallFault.TheVariants.{NotAllowed, Memo
 use Rattle.mcs_top.specs.Areas.{is_named}
 use Rattle.mcs_top.specs.SystemState.{state_of, may_do_verb, first_rest}
 use Rattle.mcs_top.specs.Model.{model_reply}
-use Rattle.mcs_top.proofs.Steps.{given_step, empty_step, refused_step}
+use Rattle.mcs_top.proofs.Steps.{given_step, empty_step, refused_step, no_verb_step}
 use Rattle.mcs_top.proofs.system.System.receive.Goals as goal
 
 pub returns-in-Some-clause-step : goal.returns-in-Some-clause-step
@@ -47,4 +47,13 @@ returns-in-None-clause-step c =
       not_allowed = λ e.
           let never : ⊥ = cc in
           absurd never;
+    }
+
+pub returns-then-not-may_do_verb-clause-step : goal.returns-then-not-may_do_verb-clause-step
+returns-then-not-may_do_verb-clause-step c =
+    let system = c.args.self.now in
+    let not_so : may_do_verb system c.args.unit.now ≡ false = search rules in
+    record {
+      done = tt;
+      not_allowed = λ e. no_verb_step system.net.now system.waiting.items system.held system.arrivals system.unit system.verbs c.args.unit.now c.args.area.now c.args.kind c.args.size not_so;
     }

@@ -1,23 +1,26 @@
--- What waits in queues, and what units hold of it.
+-- What has come in and is not yet received whole: the messages that wait on the leaves of the trees,
+-- and what units hold of messages that they have begun to receive.
 use Rattle.std.specs.Prelude.{ℕ, ◌-◌, ◌<◌, ◌≤◌, Bool, not, ◌&&◌, ◌==◌, nat_le, nat_lt, List, [], ◌∷◌, length, take, Option, option_map, option_and_then, if◌then◌else◌, count_by}
-use Rattle.std.specs.List.{filter, find, position, range_with_len, list_any, All}
+use Rattle.std.specs.List.{filter, find, position, range_with_len, list_any, All, AllPairs}
 use Rattle.std.specs.Str.{bytes_eq}
 use Rattle.com_msg.specs.declared.message.Message.{Message}
 use Rattle.com_cd.specs.Designation.{path_fields}
 use Rattle.com_tree.specs.declared.tree.TreeRow.{TreeRow}
 use Rattle.com_tree.specs.declared.tree.Node.{Node}
+use Rattle.com_tree.specs.Written.{IsWritten, leaf_count}
 use Rattle.com_tree.specs.Places.{paths, first_leaf, past_leaf}
 use Rattle.com_tree.specs.NextLeaf.{next_leaf}
 use Rattle.com_recv.specs.declared.lists.Waiting.{Waiting}
 use Rattle.com_recv.specs.declared.lists.Held.{Held}
 
--- The queues of a tree of so many leaves, for so many units.
-pub record Queued : Type 0 where
-  pub leaves : ℕ
-  pub units : ℕ
+pub record Incoming : Type 0 where
   -- in order of arrival
   pub waiting : List Waiting
   pub held : List Held
+
+-- nothing waits, and nothing is held
+abbrev pub nothing : Incoming
+nothing = record { waiting = []; held = [] }
 
 -- Designated: the node whose path the four name fields of the area hold
 abbrev pub designated : List TreeRow → List ℕ → Option Node
@@ -36,9 +39,13 @@ leaves_of tree node =
     let first = first_leaf tree node in
     range_with_len first (past_leaf tree node - first)
 
+-- this message waits on the leaf
+abbrev pub is_on : ℕ → Waiting → Bool
+is_on leaf w = w.leaf.number == leaf
+
 -- the message that came first of those on a leaf
 abbrev pub first_on : List Waiting → ℕ → Option Message
-first_on waiting leaf = option_map (λ w. w.message) (find (λ w. w.leaf == leaf) waiting)
+first_on waiting leaf = option_map (λ w. w.message) (find (is_on leaf) waiting)
 
 -- the arrival number of the message that came first on a leaf
 abbrev pub first_number : List Waiting → ℕ → Option ℕ
@@ -52,18 +59,18 @@ chosen_leaf tree waiting node =
 -- the place of the message that came first on the leaf that a node chooses
 abbrev pub place_of_choice : List TreeRow → List Waiting → Node → Option ℕ
 place_of_choice tree waiting node =
-    option_and_then (λ leaf. position (λ w. w.leaf == leaf) waiting)
+    option_and_then (λ leaf. position (is_on leaf) waiting)
     (chosen_leaf tree waiting node)
 
 -- the other messages, where the first on a leaf is taken
 abbrev pub without_first : ℕ → List Waiting → List Waiting
 without_first leaf [] = []
 without_first leaf (w ∷ waiting) =
-    if w.leaf == leaf then waiting else w ∷ without_first leaf waiting
+    if is_on leaf w then waiting else w ∷ without_first leaf waiting
 
 -- this is what the unit holds from the leaf
 abbrev pub is_held_on : ℕ → ℕ → Held → Bool
-is_held_on unit leaf h = h.unit == unit && h.leaf == leaf
+is_held_on unit leaf h = h.unit == unit && h.leaf.number == leaf
 
 -- the rest that the unit holds from a leaf
 abbrev pub held_on : List Held → ℕ → ℕ → Option Held
@@ -91,7 +98,7 @@ held_under tree held unit node = held_in held unit (leaves_of tree node)
 abbrev pub with_held : ℕ → ℕ → Message → List (List ℕ) → List Held → List Held
 with_held unit leaf rest [] held = held
 with_held unit leaf rest (piece ∷ pieces) held =
-    record { unit = unit; leaf = leaf; rest = rest } ∷ held
+    record { unit = unit; leaf = record { number = leaf }; rest = rest } ∷ held
 
 -- what is held when a unit has had a portion of a message from a leaf, by the rest of it
 abbrev pub holding : ℕ → ℕ → Message → List Held → List Held
@@ -100,15 +107,30 @@ holding unit leaf rest held =
 
 -- how many messages wait under a node
 abbrev pub waiting_under : List TreeRow → List Waiting → Node → ℕ
-waiting_under tree waiting node = count_by (λ w. is_under tree node w.leaf) waiting
+waiting_under tree waiting node = count_by (λ w. is_under tree node w.leaf.number) waiting
 
--- a message has a segment, and its leaf is one of so many
-abbrev pub IsOnLeaf : ℕ → ℕ → Message → Type 0
-IsOnLeaf leaves leaf message = (leaf < leaves) × (1 ≤ length message.segments)
+-- a message waits on a leaf under the node
+abbrev pub has_message : List TreeRow → List Waiting → Node → Bool
+has_message tree waiting node = list_any (λ w. is_under tree node w.leaf.number) waiting
 
--- A tree has no more than 64 leaves. Each message that waits, and what units hold, has a segment and
--- a leaf of the tree.
-pub record AreOnLeaves (queued : Queued) : Type 0 where
-  pub few : queued.leaves ≤ 64
-  pub waiting : All (λ w. IsOnLeaf queued.leaves w.leaf w.message) queued.waiting
-  pub held : All (λ h. IsOnLeaf queued.leaves h.leaf h.rest) queued.held
+-- the unit holds a rest from a leaf under the node
+abbrev pub has_rest : List TreeRow → List Held → ℕ → Node → Bool
+has_rest tree held unit node =
+    list_any (λ h. h.unit == unit && is_under tree node h.leaf.number) held
+
+-- the first message has arrived before the second
+abbrev pub IsEarlier : Waiting → Waiting → Type 0
+IsEarlier w later = w.message.arrival < later.message.arrival
+
+-- Of what waits and what is held, each message has a segment; and those that wait stand in the order
+-- of their arrival numbers.
+pub record IsSound (incoming : Incoming) : Type 0 where
+  pub waiting : All (λ w. 1 ≤ length w.message.segments) incoming.waiting
+  pub held : All (λ h. 1 ≤ length h.rest.segments) incoming.held
+  pub in_order : AllPairs IsEarlier incoming.waiting
+
+-- Trees that may be written, and among their leaves all those of what waits and what is held.
+pub record IsTreeOf (tree : List TreeRow) (incoming : Incoming) : Type 0 where
+  pub written : IsWritten tree
+  pub waiting : All (λ w. w.leaf.number < leaf_count tree) incoming.waiting
+  pub held : All (λ h. h.leaf.number < leaf_count tree) incoming.held
