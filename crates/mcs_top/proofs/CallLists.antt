@@ -5,8 +5,7 @@ use Rattle.std.specs.FinMap as map
 use Rattle.com_io.specs.Files.{bytes_read, with_reading}
 use Rattle.com_io.specs.Stores.{Writing, Contents, Closing}
 use Rattle.mcs_top.specs.Files.{file_limit}
-use Rattle.mcs_top.specs.Outputs.{outputs, contents_after}
-use Rattle.mcs_top.specs.Replay.{HasReplayed}
+use Rattle.mcs_top.specs.Outputs.{contents_after}
 use Rattle.mcs_top.specs.Calls.{WasAskedFor, AReplayMakesSevenCalls, opening_of, read_whole}
 
 -- a file within the limit is read to its end
