@@ -1,15 +1,11 @@
 -- Bytes are the journal of one history at most, and have one fault at most.
-use Rattle.std.proofs.Common.{◌≡◌, ℕ, zero, suc, ◌+◌, ◌<◌, ◌≤◌, true, false, Bool, None, Some, List, [], ◌∷◌, ◌++◌, length, refl, sym, ap, ◌∙◌, subst, append_assoc, length-append, arith}
-use Rattle.std.specs.Prelude.{codes}
-use Rattle.std.specs.List.{flat_map}
+use Rattle.std.proofs.Common.{◌≡◌, ℕ, ◌+◌, ◌≤◌, true, false, Bool, List, [], ◌∷◌, ◌++◌, length, refl, sym, ap, ◌∙◌, subst, append_assoc, arith}
 use Rattle.std.proofs.lemmas.List.{append-nil}
 use Rattle.std.proofs.lemmas.Option.{same_Some}
 use Rattle.com_events.specs.declared.entry.Entry.{Entry}
-use Rattle.com_events.specs.Calls.{HasText}
 use Rattle.com_journal.specs.declared.fault.JournalKind.{JournalKind}
 use Rattle.com_journal.specs.declared.fault.JournalKind.TheVariants.{BadHeader, BadLine, NoLineEnd}
 use Rattle.com_journal.specs.declared.fault.JournalFault.{JournalFault}
-use Rattle.com_journal.specs.Reading.{entry_of}
 use Rattle.com_journal.specs.Lines.{IsLine}
 use Rattle.com_journal.specs.Journals.{journal_header, ended, AreLines, IsJournal}
 use Rattle.com_journal.specs.Faults.{IsUnbroken, IsFirstLine, AreFront, IsRefusedLine, IsJournalFault}
