@@ -1,8 +1,12 @@
 -- Bytes are the journal of one history at most, and have one fault at most.
 use Rattle.std.proofs.Common.{◌≡◌, ℕ, ◌+◌, ◌≤◌, true, false, Bool, List, [], ◌∷◌, ◌++◌, length, refl, sym, ap, ◌∙◌, subst, append_assoc, arith}
 use Rattle.std.proofs.lemmas.List.{append-nil}
+use Rattle.std.specs.Prelude.{All}
+use Rattle.std.specs.List.{AllByRecursion}
+use Rattle.std.proofs.lemmas.List.Elements.{All-from_recursion}
 use Rattle.std.proofs.lemmas.Option.{same_Some}
 use Rattle.com_events.specs.declared.entry.Entry.{Entry}
+use Rattle.com_events.specs.Calls.{HasText}
 use Rattle.com_journal.specs.declared.fault.JournalKind.{JournalKind}
 use Rattle.com_journal.specs.declared.fault.JournalKind.TheVariants.{BadHeader, BadLine, NoLineEnd}
 use Rattle.com_journal.specs.declared.fault.JournalFault.{JournalFault}
@@ -52,6 +56,16 @@ lines-append [] b [] y h k = k
 lines-append (entry ∷ a) b (line ∷ x) y h k = (h.0, lines-append a b x y h.1 k)
 lines-append [] b (line ∷ x) y h k = absurd h
 lines-append (entry ∷ a) b [] y h k = absurd h
+
+-- what has lines has texts
+have_texts : (entries : List Entry) (lines : List (List ℕ)) → AreLines entries lines → AllByRecursion HasText entries
+have_texts [] [] h = tt
+have_texts (entry ∷ entries) (line ∷ lines) h = (h.0.has_text, have_texts entries lines h.1)
+have_texts [] (line ∷ lines) h = absurd h
+have_texts (entry ∷ entries) [] h = absurd h
+
+pub all_have_texts : (entries : List Entry) (lines : List (List ℕ)) → AreLines entries lines → All HasText entries
+all_have_texts entries lines h = All-from_recursion HasText entries (have_texts entries lines h)
 
 -- nothing goes on behind these bytes with a line of an entry
 abbrev Stops : List ℕ → Type 0
