@@ -1,5 +1,5 @@
 -- Each call is read from its fields, and from no others.
-use Rattle.std.proofs.Common.{◌≡◌, ℕ, zero, suc, ◌+◌, ◌-◌, ◌<◌, ◌≤◌, ◌^◌, Bool, true, false, None, Some, Option, List, [], ◌∷◌, ◌++◌, length, map, get_or, refl, sym, ap, ◌∙◌, subst, inl, inr, option_map, nat_lt, cond, ◌⊎◌, length-append, arith}
+use Rattle.std.proofs.Common.{◌≡◌, ℕ, zero, suc, ◌-◌, ◌<◌, ◌≤◌, ◌^◌, Bool, true, false, None, Some, Option, List, [], ◌∷◌, ◌++◌, length, map, get_or, refl, sym, ap, ◌∙◌, subst, inl, inr, option_map, cond, ◌⊎◌, length-append, arith}
 use Rattle.std.specs.Prelude.{decimal, codes, All, ◌==◌}
 use Rattle.std.proofs.lemmas.List.Elements.{All-from_recursion, All-head, All-tail}
 use Rattle.std.specs.List.{concat, AllByRecursion}
@@ -39,11 +39,10 @@ use Rattle.com_events.specs.declared.call.TheConstants.{MAX_KEY_LENGTH}
 use Rattle.com_journal.specs.Words.{kind_word, wait_word, switch_word, input_word, end_word, stop_word, frame_word}
 use Rattle.com_journal.specs.Choices.{kind_of, wait_of, switch_of, input_of, end_of, stop_of, plain_end_of, frame_of}
 use Rattle.com_journal.specs.Lines.{advance_field, part_fields, item_field, end_fields, call_fields}
-use Rattle.com_journal.specs.Outcomes.{◌>>=◌}
 use Rattle.com_journal.specs.Reading.{behind, word_at, number_in, number_at, chunk_at, text_at, in_area_at, out_area_at, receive_at, count_at, advance_by, advance_of, indicated, indicator_at, part_at, item_at, send_at, switch_output_at, switch_input_at, input_at, switch_at, stop_at, segments_at, stamp_of, stamp_at, are_short, arrive_at, frame_at, reason_at, finish_at, unit_verb, terminal_verb}
 use Rattle.com_journal.proofs.Options.{step, option_map-Some, None-of, bytes_eq-true}
 use Rattle.com_journal.proofs.Numbers.{IsNumberIn-number_in, number_in-word}
-use Rattle.com_journal.proofs.Fields.{behind-append, behind-Some, HasNoSpace, HasNoSpace-decimal}
+use Rattle.com_journal.proofs.Fields.{behind-Some, HasNoSpace, HasNoSpace-decimal}
 use Rattle.com_journal.proofs.Spelled.{spelled, spelled-append}
 use Rattle.com_journal.proofs.FieldLaws.{IsEnd, Reads, no_space, word-complete, word-sound, IsWithin, reads_number, reads_chunk, IsTextOf, reads_text, reads_in_area, reads_out_area}
 use Rattle.com_journal.proofs.WordLaws.{branch, chooses_kind, chooses_wait, chooses_switch, chooses_input, chooses_end, chooses_stop, chooses_frame}

@@ -1,6 +1,5 @@
 -- What has a text can be written.
-use Rattle.std.proofs.Common.{◌≡◌, ℕ, ◌≤◌, None, Some, Option, List, [], ◌∷◌, length, arith}
-use Rattle.std.specs.Prelude.{All}
+use Rattle.std.proofs.Common.{ℕ, None, Some, Option, List, arith}
 use Rattle.std.specs.Option.{IfSome}
 use Rattle.com_text.specs.Counted.{IsCountable}
 use Rattle.com_events.specs.declared.call.Call.{Call}

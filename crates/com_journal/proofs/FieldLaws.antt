@@ -1,5 +1,5 @@
 -- Each field is read as it stands, and nothing else is read as one.
-use Rattle.std.proofs.Common.{◌≡◌, ℕ, suc, ◌+◌, ◌<◌, ◌≤◌, ◌^◌, Bool, true, false, not, ◌&&◌, None, Some, Option, List, [], ◌∷◌, ◌++◌, length, get_or, take, drop, refl, sym, ap, ◌∙◌, subst, inl, inr, nat_lt, nat_le, cond, ◌*◌, arith}
+use Rattle.std.proofs.Common.{◌≡◌, ℕ, ◌+◌, ◌<◌, ◌≤◌, ◌^◌, Bool, true, not, ◌&&◌, None, Some, Option, List, [], ◌∷◌, ◌++◌, length, get_or, take, drop, refl, sym, ap, ◌∙◌, inl, inr, nat_lt, nat_le, cond, ◌*◌, arith}
 use Rattle.std.specs.Prelude.{◌==◌, decimal, codes, if◌then◌else◌}
 use Rattle.std.specs.List.{list_all, position_or_len}
 use Rattle.std.specs.Str.{bytes_eq}
@@ -7,16 +7,16 @@ use Rattle.std.proofs.lemmas.Bool.{and_from, and_parts, cases_Bool, eq-eqb, eqb-
 use Rattle.std.proofs.lemmas.Bool.Decides.{nat_tests}
 use Rattle.std.proofs.lemmas.List.{append-nil, get_or_append_left, get_or_at, length-append, take_at, drop_at, take-append-drop, length-take-le}
 use Rattle.std.proofs.lemmas.List.Sums.{position_or_len_is, AllPass-from_list_all}
-use Rattle.std.proofs.lemmas.Option.{cond_some, none-some, same_Some, some_pair_parts}
+use Rattle.std.proofs.lemmas.Option.{cond_some, none-some, some_pair_parts}
 use Rattle.com_text.specs.Counted.{counted_field, IsCountable}
 use Rattle.com_text.specs.Text.{IsText, is_text}
 use Rattle.com_cd.specs.InputArea.{IsInputArea}
 use Rattle.com_cd.specs.OutputArea.{IsOutputArea, occurrences_of}
 use Rattle.com_journal.specs.Outcomes.{◌>>=◌}
-use Rattle.com_journal.specs.Reading.{behind, is_space, word_at, expected, number_in, number_at, chunk_at, split_counted, counted_at, is_text_of, text_at, is_input_area, in_area_at, is_output_area, out_area_at}
+use Rattle.com_journal.specs.Reading.{behind, is_space, word_at, expected, number_in, number_at, chunk_at, counted_at, is_text_of, text_at, is_input_area, in_area_at, is_output_area, out_area_at}
 use Rattle.com_journal.proofs.Options.{step, eq-bytes_eq, bytes_eq-true}
-use Rattle.com_journal.proofs.Numbers.{IsNumberIn, IsNumberIn-number_in, number_in-word}
-use Rattle.com_journal.proofs.Fields.{behind-append, behind-Some, split_counted-front, front-split_counted, HasNoSpace, HasNoSpace-decimal}
+use Rattle.com_journal.proofs.Numbers.{IsNumberIn-number_in, number_in-word}
+use Rattle.com_journal.proofs.Fields.{behind-Some, split_counted-front, front-split_counted, HasNoSpace, HasNoSpace-decimal}
 
 -- a field ends before a space or at the end
 abbrev pub IsEnd : List ℕ → Type 0

@@ -1,15 +1,14 @@
 -- The fields of a line: each is read just where it stands.
-use Rattle.std.proofs.Common.{◌≡◌, ℕ, suc, ◌+◌, ◌<◌, ◌≤◌, ◌^◌, Bool, true, false, not, None, Some, Option, List, [], ◌∷◌, ◌++◌, length, get_or, take, drop, refl, sym, ap, ◌∙◌, subst, inl, inr, option_map, nat_lt, nat_le, nat_eq, arith, append_assoc}
-use Rattle.std.specs.Prelude.{◌==◌, decimal, codes, slice_range}
+use Rattle.std.proofs.Common.{◌≡◌, ℕ, ◌<◌, ◌≤◌, ◌^◌, Bool, true, false, not, Some, List, ◌∷◌, ◌++◌, length, get_or, take, drop, refl, sym, ap, ◌∙◌, subst, inl, inr, option_map, nat_lt, nat_le, nat_eq, arith, append_assoc}
+use Rattle.std.specs.Prelude.{◌==◌, decimal, slice_range}
 use Rattle.std.specs.List.{list_all, position, position_or_len, after_first, starts_with}
 use Rattle.std.specs.Option.{unwrap_or}
-use Rattle.std.proofs.lemmas.Bool.{cases_Bool, eqb-true, le-leb, le-ltb, lt-ltb, leb-true, ne_eqb}
+use Rattle.std.proofs.lemmas.Bool.{cases_Bool, le-leb, leb-true, ne_eqb}
 use Rattle.std.proofs.lemmas.Bool.Decides.{Decides-eqb, nat_tests}
 use Rattle.std.proofs.lemmas.Fmt.{digits_decimal, digits_value-decimal}
-use Rattle.std.proofs.lemmas.List.{append-nil, take_all, get_or_append_left, get_or_at, length-append, take_at, drop_at, drop_more, take-append-drop}
-use Rattle.std.proofs.lemmas.List.Quantifiers.{position-Some}
+use Rattle.std.proofs.lemmas.List.{get_or_append_left, get_or_at, length-append, take_at, take-append-drop}
 use Rattle.std.proofs.lemmas.List.Sums.{position_or_len_is, prefix_len-le-length, AllPass-from_list_all}
-use Rattle.std.proofs.lemmas.Option.{cond_some, none-some}
+use Rattle.std.proofs.lemmas.Option.{cond_some}
 use Rattle.std.proofs.lemmas.Slice.Eq.{starts_is}
 use Rattle.std.proofs.lemmas.Str.Parse.{not_in_digits}
 use Rattle.std.proofs.Math.Seq.{drop-append-add, drop-append_seam}
@@ -19,7 +18,7 @@ use Rattle.com_text.specs.Digits.{number}
 use Rattle.com_text.specs.Name.{IsName, is_name_byte}
 use Rattle.com_text.proofs.Numerals.{own_digits}
 use Rattle.com_journal.specs.Reading.{behind, is_space, split_counted}
-use Rattle.com_journal.proofs.Options.{option_map-Some, if-Some, None-of}
+use Rattle.com_journal.proofs.Options.{option_map-Some, if-Some}
 
 -- the place of the first byte of a sort, or of the end
 pub place_or_end : (test : ℕ → Bool) (bytes : List ℕ) → unwrap_or (position test bytes) (length bytes) ≡ position_or_len test bytes

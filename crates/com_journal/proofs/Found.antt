@@ -1,5 +1,5 @@
 -- What the readers of a whole line give, in the words of its definition.
-use Rattle.std.proofs.Common.{◌≡◌, ℕ, Option, None, Some, Result, Ok, Err, List, sym, ◌∙◌}
+use Rattle.std.proofs.Common.{ℕ, Result, Ok, Err, List, sym, ◌∙◌}
 use Rattle.std.specs.Result.{IfOk, MatchResult}
 use Rattle.std.proofs.lemmas.Option.{none-some, same_Some}
 use Rattle.com_events.specs.declared.call.Party.{Party}

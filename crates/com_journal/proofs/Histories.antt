@@ -1,6 +1,5 @@
 -- Writing and reading the lines of journals and scripts one after another.
-use Rattle.std.specs.Result.{IfErr}
-use Rattle.std.proofs.Common.{◌≡◌, Result, Ok, Err, ℕ, ◌+◌, ◌≤◌, ◌<◌, Bool, true, false, List, [], ◌∷◌, ◌++◌, length, map, get_or, take, refl, sym, ap, ◌∙◌, subst, arith, append_assoc, length-append}
+use Rattle.std.proofs.Common.{◌≡◌, ℕ, ◌+◌, ◌≤◌, ◌<◌, Bool, true, false, List, [], ◌∷◌, ◌++◌, length, get_or, take, refl, sym, ap, ◌∙◌, subst, arith, append_assoc}
 use Rattle.std.specs.Prelude.{codes, All}
 use Rattle.std.specs.List.{flat_map}
 use Rattle.std.proofs.lemmas.List.{append-nil, flat_map_more, take_more, length_push}
@@ -11,7 +10,6 @@ use Rattle.com_events.specs.declared.entry.Entry.{Entry}
 use Rattle.com_events.specs.Calls.{HasText}
 use Rattle.com_journal.specs.declared.fault.JournalKind.{JournalKind}
 use Rattle.com_journal.specs.declared.fault.JournalKind.TheVariants.{BadHeader, BadLine, NoLineEnd}
-use Rattle.com_journal.specs.declared.fault.JournalFault.{JournalFault}
 use Rattle.com_journal.specs.declared.fault.JournalError.{JournalError}
 use Rattle.com_journal.specs.declared.fault.JournalError.TheVariants as error
 use Rattle.com_journal.specs.Lines.{IsCallText, IsLine}
@@ -29,9 +27,9 @@ abbrev pub ended_line : Entry → List ℕ
 ended_line entry = line_spelled entry ++ 10 ∷ []
 
 -- one more line behind others
-pub written_more : (start out : List ℕ) (entries : List Entry) (i : ℕ) (entry d : Entry) → i < length entries → entry ≡ get_or entries i d → out ≡ start ++ flat_map ended_line (take i entries)
+pub line_written : (start out : List ℕ) (entries : List Entry) (i : ℕ) (entry d : Entry) → i < length entries → entry ≡ get_or entries i d → out ≡ start ++ flat_map ended_line (take i entries)
     → with_entry out entry ++ 10 ∷ [] ≡ start ++ flat_map ended_line (take (i + 1) entries)
-written_more start out entries i entry d within is so_far =
+line_written start out entries i entry d within is so_far =
     let line : with_entry out entry ++ 10 ∷ [] ≡ out ++ ended_line entry = ap (λ xs. xs ++ 10 ∷ []) (with_entry-line out entry) ∙ append_assoc out (line_spelled entry) (10 ∷ []) in
     line ∙ (ap (λ xs. xs ++ ended_line entry) so_far
     ∙ (append_assoc start (flat_map ended_line (take i entries)) (ended_line entry)
@@ -58,10 +56,6 @@ written_journal entries bytes h e =
     let all = has_lines entries h in
     (all.lines, all.are, e ∙ ap (λ xs. codes "MCS-JOURNAL 1\n" ++ xs) all.same)
 
--- nothing is read at first
-pub none_read : (bytes : List ℕ) → HasRead bytes [] 1 bytes
-none_read bytes = record { texts = []; are_lines = tt; split = refl; at = refl }
-
 behind_last : (lines : List (List ℕ)) (line rest : List ℕ) → ended (lines ++ line ∷ []) ++ rest ≡ ended lines ++ (line ++ 10 ∷ rest)
 behind_last lines line rest =
     ap (λ xs. xs ++ rest) (ended-append lines (line ∷ []))
@@ -79,74 +73,17 @@ one_read bytes entries number rest entry line true after h first e is = record {
 }
 one_read bytes entries number rest entry line false after h first e is = cc
 
--- all lines are read
-pub all_read : (bytes : List ℕ) (entries : List Entry) (number : ℕ) (rest : List ℕ) → HasRead bytes entries number rest → rest ≡ [] → (texts : List (List ℕ)) × AreLines entries texts × (bytes ≡ ended texts)
-all_read bytes entries number rest h e =
-    (h.texts, h.are_lines, h.split ∙ (ap (λ xs. ended h.texts ++ xs) e ∙ append-nil (ended h.texts)))
-
-nothing_ends : (line rest : List ℕ) → [] ≡ line ++ 10 ∷ rest → ⊥
-nothing_ends [] rest e = cc
-nothing_ends (byte ∷ line) rest e = cc
-
-nothing_first : (bytes line : List ℕ) (is_ended : Bool) (rest : List ℕ) → bytes ≡ [] → IsFirstLine bytes line is_ended rest → line ≡ journal_header → ⊥
-nothing_first bytes line true rest e first same = nothing_ends line rest (sym e ∙ first.1)
-nothing_first bytes line false rest e first same = absurd (omega (arith, first.2, ap length (sym first.1 ∙ e)))
-
-no_lines : (lines : List (List ℕ)) → [] ≡ script_header ∷ lines → ⊥
-no_lines lines e = cc
-
 same_first : {x y : List ℕ} {xs ys : List (List ℕ)} → x ∷ xs ≡ y ∷ ys → x ≡ y
 same_first e = cc
-
--- the next line is refused
-refused_line : (kind : JournalKind) (number : ℕ) (rest line : List ℕ) (is_ended : Bool) (after : List ℕ) → 2 ≤ number → IsFirstLine rest line is_ended after → IsNoEntryFor kind line is_ended → IsRefusedLine kind number rest
-refused_line BadHeader number rest line is_ended after high first none = absurd none
-refused_line NoLineEnd number rest line is_ended after high first none =
-    (line, after, subst (λ (b : Bool). IsFirstLine rest line b after) none first, λ one. absurd (omega (arith, one)))
-refused_line BadLine number rest line is_ended after high first none =
-    let above : 1 < number = omega arith in
-    (above, line, after, subst (λ (b : Bool). IsFirstLine rest line b after) none.0 first, none.1)
-
-pub refused_next : (bytes : List ℕ) (entries : List Entry) (number : ℕ) (rest line : List ℕ) (is_ended : Bool) (after : List ℕ) (e : JournalError) → HasRead bytes entries number rest
-    → IsFirstLine rest line is_ended after → Tells (IsNoEntry (number + 1) line is_ended) e → Tells (IsRefusedBehind bytes) e
-refused_next bytes entries number rest line is_ended after (error.Refused fault) h first r =
-    let high : 2 ≤ fault.line = omega (arith, r.at, h.at) in
-    record { entries = entries; number = number; rest = rest; read = h; at = r.at; refused = refused_line fault.kind fault.line rest line is_ended after high first r.refused }
-refused_next bytes entries number rest line is_ended after (error.Memory e) h first r = tt
 
 -- the header is refused
 pub wrong_header : (bytes line rest : List ℕ) (is_ended : Bool) → IsFirstLine bytes line is_ended rest → (line ≡ journal_header → ⊥) → IsRefusedAt 1 bytes (record { line = 1; kind = BadHeader })
 wrong_header bytes line rest is_ended first other =
     record { at = refl; refused = (refl, λ text ended more is same. other (one_first_line bytes line text rest more is_ended ended first is ∙ same)) }
 
-pub no_header : (bytes : List ℕ) → bytes ≡ [] → IsRefusedAt 1 bytes (record { line = 1; kind = BadHeader })
-no_header bytes e = record { at = refl; refused = (refl, λ text ended more is same. nothing_first bytes text ended more e is same) }
-
-pub cut_header : (bytes line rest : List ℕ) (is_ended : Bool) → IsFirstLine bytes line is_ended rest → line ≡ journal_header → is_ended ≡ false → IsRefusedAt 1 bytes (record { line = 1; kind = NoLineEnd })
-cut_header bytes line rest is_ended first same e =
-    record { at = refl; refused = (line, rest, subst (λ (b : Bool). IsFirstLine bytes line b rest) e first, λ _. same) }
-
-pub passed_header : (bytes line rest : List ℕ) (is_ended : Bool) → IsFirstLine bytes line is_ended rest → line ≡ journal_header → is_ended ≡ true → bytes ≡ journal_header ++ 10 ∷ rest
-passed_header bytes line rest true first same e = first.1 ∙ ap (λ xs. xs ++ 10 ∷ rest) same
-passed_header bytes line rest false first same e = cc
-
--- and that of a script
-pub no_script_header : (bytes : List ℕ) → bytes ≡ [] → IsBadScriptHeader bytes (record { line = 1; kind = BadHeader })
-no_script_header bytes e = record { at = refl; kind = refl; none = λ lines h. no_lines lines (sym (ap lines_of e) ∙ h) }
-
 pub wrong_script_header : (bytes line rest : List ℕ) (is_ended : Bool) → IsFirstLine bytes line is_ended rest → (line ≡ script_header → ⊥) → IsBadScriptHeader bytes (record { line = 1; kind = BadHeader })
 wrong_script_header bytes line rest is_ended first other =
     record { at = refl; kind = refl; none = λ lines h. other (same_first (sym (lines-first bytes line rest is_ended first) ∙ h)) }
-
--- a journal, its header first
-pub whole_journal : (bytes left : List ℕ) (entries : List Entry) → bytes ≡ journal_header ++ 10 ∷ left → (texts : List (List ℕ)) × AreLines entries texts × (left ≡ ended texts) → IsJournal entries bytes
-whole_journal bytes left entries e h =
-    (h.0, h.1, e ∙ ap (λ xs. journal_header ++ 10 ∷ xs) h.2)
-
-pub bad_header : (bytes : List ℕ) (e : JournalError) → Tells (IsRefusedAt 1 bytes) e → Tells (IsJournalFault bytes) e
-bad_header bytes (error.Refused fault) r =
-    record { front = []; are_front = tt; rest = bytes; split = refl; number = r.at; refused = r.refused }
-bad_header bytes (error.Memory e) r = tt
 
 pub bad_line : (bytes left : List ℕ) (e : JournalError) → bytes ≡ journal_header ++ 10 ∷ left → Tells (IsRefusedBehind left) e → Tells (IsJournalFault bytes) e
 bad_line bytes left (error.Refused fault) e r = record {
@@ -158,10 +95,6 @@ bad_line bytes left (error.Refused fault) e r = record {
   refused = r.refused;
 }
 bad_line bytes left (error.Memory e) same r = tt
-
--- no call is read at first
-pub no_calls : (bytes : List ℕ) → HasReadCalls bytes [] 1 bytes
-no_calls bytes = record { texts = []; are_calls = tt; split = refl; at = refl }
 
 calls-append : (a b : List (Party × Call)) (x y : List (List ℕ)) → AreCalls a x → AreCalls b y → AreCalls (a ++ b) (x ++ y)
 calls-append [] b [] y h k = k
@@ -178,11 +111,6 @@ one_call bytes calls number rest call line is_ended after h first is = record {
   at = omega (arith, h.at, length_push h.texts line);
 }
 
-pub all_calls : (bytes : List ℕ) (calls : List (Party × Call)) (number : ℕ) (rest : List ℕ) → HasReadCalls bytes calls number rest → rest ≡ [] → AreCalls calls (lines_of bytes)
-all_calls bytes calls number rest h e =
-    let whole : lines_of bytes ≡ h.texts = h.split ∙ (ap (λ xs. h.texts ++ lines_of xs) e ∙ append-nil h.texts) in
-    subst (AreCalls calls) (sym whole) h.are_calls
-
 pub bad_call : (bytes : List ℕ) (calls : List (Party × Call)) (number : ℕ) (rest line : List ℕ) (is_ended : Bool) (after : List ℕ) (e : JournalError) → HasReadCalls bytes calls number rest
     → IsFirstLine rest line is_ended after → Tells (IsNoCall (number + 1) line) e → Tells (IsBadCallBehind bytes) e
 bad_call bytes calls number rest line is_ended after (error.Refused fault) h first r = record {
@@ -196,30 +124,3 @@ bad_call bytes calls number rest line is_ended after (error.Refused fault) h fir
   no_call = r;
 }
 bad_call bytes calls number rest line is_ended after (error.Memory e) h first r = tt
-
--- a script, its header first
-pub whole_script : (bytes left : List ℕ) (calls : List (Party × Call)) → lines_of bytes ≡ script_header ∷ lines_of left → AreCalls calls (lines_of left) → IsScript calls bytes
-whole_script bytes left calls e h = (lines_of left, e, h)
-
-pub bad_script_header : (bytes : List ℕ) (e : JournalError) → Tells (IsBadScriptHeader bytes) e → Tells (IsScriptFault bytes) e
-bad_script_header bytes (error.Refused fault) r = rw r.kind (r.at, r.none)
-bad_script_header bytes (error.Memory e) r = tt
-
-pub bad_script_line : (bytes left : List ℕ) (e : JournalError) → lines_of bytes ≡ script_header ∷ lines_of left → Tells (IsBadCallBehind left) e → Tells (IsScriptFault bytes) e
-bad_script_line bytes left (error.Refused fault) e r =
-    rw r.no_call.kind record {
-      front = r.read.texts;
-      calls = r.calls;
-      are_calls = r.read.are_calls;
-      line = r.line;
-      behind = r.behind;
-      split = e ∙ ap (λ xs. script_header ∷ xs) (r.read.split ∙ ap (λ xs. r.read.texts ++ xs) r.next);
-      number_is = omega (arith, r.no_call.at, r.read.at);
-      none = r.no_call.none;
-    }
-bad_script_line bytes left (error.Memory e) same r = tt
-
--- what a refusal tells, in other words
-pub if_err : {A E : Type 0} (r : Result A E) (P Q : E → Type 0) → ((e : E) → P e → Q e) → IfErr r P → IfErr r Q
-if_err (Ok x) P Q f h = tt
-if_err (Err e) P Q f h = f e h

@@ -1,15 +1,15 @@
 -- Bytes are the journal of one history at most, and have one fault at most.
-use Rattle.std.proofs.Common.{◌≡◌, ℕ, zero, suc, ◌+◌, ◌<◌, ◌≤◌, true, false, Bool, None, Some, List, [], ◌∷◌, ◌++◌, length, refl, sym, ap, ◌∙◌, subst, append_assoc, length-append, arith}
-use Rattle.std.specs.Prelude.{codes}
-use Rattle.std.specs.List.{flat_map}
+use Rattle.std.proofs.Common.{◌≡◌, ℕ, ◌+◌, ◌≤◌, true, false, Bool, List, [], ◌∷◌, ◌++◌, length, refl, sym, ap, ◌∙◌, subst, append_assoc, arith}
 use Rattle.std.proofs.lemmas.List.{append-nil}
+use Rattle.std.specs.Prelude.{All}
+use Rattle.std.specs.List.{AllByRecursion}
+use Rattle.std.proofs.lemmas.List.Elements.{All-from_recursion}
 use Rattle.std.proofs.lemmas.Option.{same_Some}
 use Rattle.com_events.specs.declared.entry.Entry.{Entry}
 use Rattle.com_events.specs.Calls.{HasText}
 use Rattle.com_journal.specs.declared.fault.JournalKind.{JournalKind}
 use Rattle.com_journal.specs.declared.fault.JournalKind.TheVariants.{BadHeader, BadLine, NoLineEnd}
 use Rattle.com_journal.specs.declared.fault.JournalFault.{JournalFault}
-use Rattle.com_journal.specs.Reading.{entry_of}
 use Rattle.com_journal.specs.Lines.{IsLine}
 use Rattle.com_journal.specs.Journals.{journal_header, ended, AreLines, IsJournal}
 use Rattle.com_journal.specs.Faults.{IsUnbroken, IsFirstLine, AreFront, IsRefusedLine, IsJournalFault}
@@ -56,6 +56,16 @@ lines-append [] b [] y h k = k
 lines-append (entry ∷ a) b (line ∷ x) y h k = (h.0, lines-append a b x y h.1 k)
 lines-append [] b (line ∷ x) y h k = absurd h
 lines-append (entry ∷ a) b [] y h k = absurd h
+
+-- what has lines has texts
+have_texts : (entries : List Entry) (lines : List (List ℕ)) → AreLines entries lines → AllByRecursion HasText entries
+have_texts [] [] h = tt
+have_texts (entry ∷ entries) (line ∷ lines) h = (h.0.has_text, have_texts entries lines h.1)
+have_texts [] (line ∷ lines) h = absurd h
+have_texts (entry ∷ entries) [] h = absurd h
+
+pub all_have_texts : (entries : List Entry) (lines : List (List ℕ)) → AreLines entries lines → All HasText entries
+all_have_texts entries lines h = All-from_recursion HasText entries (have_texts entries lines h)
 
 -- nothing goes on behind these bytes with a line of an entry
 abbrev Stops : List ℕ → Type 0

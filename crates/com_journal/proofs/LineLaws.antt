@@ -1,8 +1,7 @@
 -- Each line is read as its entry, and each call's text as its call, and nothing else is.
-use Rattle.std.proofs.Common.{◌≡◌, ℕ, zero, suc, true, None, Some, Option, List, [], ◌∷◌, ◌++◌, length, refl, sym, ap, ◌∙◌, subst, inl, inr, cond, append_assoc, arith}
+use Rattle.std.proofs.Common.{◌≡◌, ℕ, None, Some, Option, List, [], ◌∷◌, ◌++◌, length, refl, sym, ap, ◌∙◌, subst, inl, inr, cond, append_assoc, arith}
 use Rattle.std.specs.Prelude.{codes, decimal, ◌==◌}
-use Rattle.std.proofs.lemmas.Bool.{cases_Bool, eq-eqb, eqb-true}
-use Rattle.std.proofs.lemmas.List.{append-nil}
+use Rattle.std.proofs.lemmas.Bool.{cases_Bool, eqb-true}
 use Rattle.std.proofs.lemmas.Option.{cond_some, none-some, same_Some, some_pair_parts}
 use Rattle.com_text.specs.Counted.{counted_field}
 use Rattle.com_text.specs.Name.{IsName, is_name}
@@ -12,16 +11,15 @@ use Rattle.com_events.specs.declared.call.Call.{Call}
 use Rattle.com_events.specs.declared.reply.Reply.{Reply}
 use Rattle.com_events.specs.declared.reply.Reply.TheVariants.{Started, Given, NoData, Refused, Waits, AreaIn, AreaOut, Arrived, Done}
 use Rattle.com_events.specs.declared.entry.Entry.{Entry}
-use Rattle.com_events.specs.Calls.{IsCallOf, IsWellFormed, IsReplyTo, HasText}
-use Rattle.com_journal.specs.Lines.{spaced, party_fields, call_fields, reply_fields, call_text, reply_text, IsCallText, IsLine}
-use Rattle.com_journal.specs.Outcomes.{◌>>=◌}
+use Rattle.com_events.specs.Calls.{IsCallOf, IsWellFormed, HasText}
+use Rattle.com_journal.specs.Lines.{call_fields, reply_fields, call_text, reply_text, IsCallText, IsLine}
 use Rattle.com_journal.specs.Writing.{written, party_sort, party_name, with_entry}
-use Rattle.com_journal.specs.Reading.{word_at, expected, first_at, name_of, party_of, party_at, verb_behind, unit_verb, terminal_verb, call_at, reply_at, end_at, call_of, entry_of}
+use Rattle.com_journal.specs.Reading.{word_at, expected, first_at, name_of, party_of, party_at, verb_behind, call_at, reply_at, end_at, call_of, entry_of}
 use Rattle.com_journal.proofs.Options.{step}
 use Rattle.com_journal.proofs.Fields.{HasNoSpace-name}
-use Rattle.com_journal.proofs.Spelled.{spelled, spelled-append, spelled-rest, spaced-spelled, written-spelled}
+use Rattle.com_journal.proofs.Spelled.{spelled, spelled-rest, spaced-spelled, written-spelled}
 use Rattle.com_journal.proofs.FieldLaws.{IsEnd, no_space, word-complete, word-sound, expected-complete, expected-sound}
-use Rattle.com_journal.proofs.CallLaws.{IsTerminalCall, spelled_end, unit-sound, unit-complete, terminal-sound, terminal-complete}
+use Rattle.com_journal.proofs.CallLaws.{spelled_end, unit-sound, unit-complete, terminal-sound, terminal-complete}
 use Rattle.com_journal.proofs.ReplyLaws.{reply-sound, reply-complete}
 
 -- the text of a party's call, before these bytes

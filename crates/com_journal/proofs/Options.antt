@@ -1,6 +1,5 @@
 -- Steps of readers that answer an option.
 use Rattle.std.proofs.Common.{◌≡◌, true, None, Some, Option, Bool, false, refl, option_map, cond, List, ℕ}
-use Rattle.std.specs.Prelude.{option_and_then}
 use Rattle.std.specs.Str.{bytes_eq}
 use Rattle.std.proofs.lemmas.Option.{none-some, same_Some}
 use Rattle.std.proofs.lemmas.Slice.Eq.{bytes_eq-Decides}

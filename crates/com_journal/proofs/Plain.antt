@@ -1,5 +1,5 @@
 -- A line is a text, so no line feed stands in it, and lines are told apart by their line feeds.
-use Rattle.std.proofs.Common.{◌≡◌, ℕ, zero, suc, ◌+◌, ◌<◌, ◌≤◌, ◌^◌, true, false, not, Bool, None, Some, Option, List, [], ◌∷◌, ◌++◌, length, map, refl, sym, ap, ◌∙◌, subst, append_assoc, length-append, arith}
+use Rattle.std.proofs.Common.{◌≡◌, ℕ, ◌<◌, ◌^◌, true, not, None, Some, Option, List, [], ◌∷◌, ◌++◌, length, map, refl, arith}
 use Rattle.std.specs.Prelude.{decimal, codes, ◌==◌, ◌&&◌}
 use Rattle.std.specs.List.{list_all, AllByRecursion}
 use Rattle.std.specs.Option.{IfSome}
@@ -28,7 +28,7 @@ use Rattle.com_events.specs.declared.call.Call.TheVariants.{Start, Receive, Coun
 use Rattle.com_events.specs.declared.reply.Reply.{Reply}
 use Rattle.com_events.specs.declared.reply.Reply.TheVariants.{Started, Given, NoData, Refused, Waits, AreaIn, AreaOut, Arrived, Done}
 use Rattle.com_events.specs.declared.entry.Entry.{Entry}
-use Rattle.com_events.specs.Calls.{IsPart, IsItem, IsEndReason, IsWellFormed, IsCallOf, AreNames, IsReplyTo, HasText}
+use Rattle.com_events.specs.Calls.{IsPart, IsItem, IsEndReason, IsWellFormed, IsCallOf, AreNames, IsReplyTo}
 use Rattle.com_msg.specs.declared.message.TheConstants.{MAX_SEGMENT_LENGTH}
 use Rattle.com_journal.specs.Lines.{advance_field, part_fields, item_field, end_fields, call_fields, reply_fields, IsLine}
 use Rattle.com_journal.specs.Writing.{party_sort, party_name}
@@ -38,7 +38,7 @@ use Rattle.com_journal.proofs.Spelled.{spelled}
 use Rattle.com_journal.proofs.FieldLaws.{IsTextOf}
 use Rattle.com_journal.proofs.CallLaws.{segments_of}
 use Rattle.com_journal.proofs.WordLaws.{chooses_kind, chooses_wait, chooses_switch, chooses_input, chooses_end, chooses_stop, chooses_frame}
-use Rattle.com_journal.proofs.LineLaws.{line_spelled, line-spelled}
+use Rattle.com_journal.proofs.LineLaws.{line-spelled}
 
 date_digits : (m : Moment) → IsMoment m → all_ascii_digits m.date ≡ true
 date_digits m h =

@@ -1,11 +1,10 @@
 -- Each reply is read from its fields, and from no others.
-use Rattle.std.proofs.Common.{◌≡◌, ℕ, ◌<◌, ◌≤◌, ◌^◌, ◌-◌, Bool, true, false, ◌&&◌, None, Some, Option, List, [], ◌∷◌, ◌++◌, length, refl, sym, ap, ◌∙◌, subst, inl, inr, cond, arith}
+use Rattle.std.proofs.Common.{◌≡◌, ℕ, ◌<◌, ◌≤◌, ◌^◌, ◌-◌, Bool, ◌&&◌, None, Some, Option, List, [], ◌∷◌, ◌++◌, length, refl, ap, ◌∙◌, subst, inl, inr, arith}
 use Rattle.std.specs.Prelude.{decimal, codes, ◌==◌}
 use Rattle.std.specs.Option.{IfSome}
-use Rattle.std.specs.Str.{bytes_eq}
-use Rattle.std.proofs.lemmas.Bool.{and_from, and_parts, cases_Bool, eq-eqb, eqb-true}
+use Rattle.std.proofs.lemmas.Bool.{and_parts, cases_Bool, eqb-true}
 use Rattle.std.proofs.lemmas.Option.{cond_some, none-some, same_Some, some_pair_parts}
-use Rattle.com_text.specs.Counted.{counted_field, IsCountable}
+use Rattle.com_text.specs.Counted.{counted_field}
 use Rattle.com_text.specs.Text.{IsText, is_text}
 use Rattle.com_cd.specs.InputArea.{IsInputArea}
 use Rattle.com_cd.specs.OutputArea.{IsOutputArea}
@@ -17,7 +16,6 @@ use Rattle.com_events.specs.declared.reply.Reply.TheVariants.{Started, Given, No
 use Rattle.com_events.specs.Calls.{AreNames, IsReplyTo}
 use Rattle.com_msg.specs.declared.rest.TheConstants.{MAX_SIZE}
 use Rattle.com_journal.specs.Lines.{reply_fields}
-use Rattle.com_journal.specs.Outcomes.{◌>>=◌}
 use Rattle.com_journal.specs.Reading.{word_at, expected, number_at, counted_at, text_at, in_area_at, out_area_at, names_of, names_at, started_at, given_at, without_data, refused_at, received_behind, received_at, input_after, output_after, arrived_at, done_at, reply_at}
 use Rattle.com_journal.proofs.Options.{step}
 use Rattle.com_journal.proofs.Spelled.{spelled}

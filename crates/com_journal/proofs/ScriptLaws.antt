@@ -1,15 +1,14 @@
 -- Bytes are the script of one list of calls at most, and have one fault at most.
-use Rattle.std.proofs.Common.{◌≡◌, ℕ, suc, ◌+◌, List, [], ◌∷◌, ◌++◌, length, refl, sym, ap, ◌∙◌, subst, arith, append_assoc}
+use Rattle.std.proofs.Common.{◌≡◌, ℕ, suc, ◌+◌, List, [], ◌∷◌, ◌++◌, length, refl, sym, ap, ◌∙◌, subst}
 use Rattle.std.proofs.lemmas.Option.{same_Some}
 use Rattle.com_events.specs.declared.call.Party.{Party}
 use Rattle.com_events.specs.declared.call.Call.{Call}
 use Rattle.com_journal.specs.declared.fault.JournalKind.{JournalKind}
 use Rattle.com_journal.specs.declared.fault.JournalKind.TheVariants.{BadHeader, BadLine, NoLineEnd}
 use Rattle.com_journal.specs.declared.fault.JournalFault.{JournalFault}
-use Rattle.com_journal.specs.Reading.{call_of}
 use Rattle.com_journal.specs.Lines.{IsCallText}
-use Rattle.com_journal.specs.Scripts.{lines_of, script_header, AreCalls, IsScript}
-use Rattle.com_journal.specs.Faults.{IsBadCall, IsScriptFaultAt, IsScriptFault}
+use Rattle.com_journal.specs.Scripts.{AreCalls, IsScript}
+use Rattle.com_journal.specs.Faults.{IsScriptFaultAt, IsScriptFault}
 use Rattle.com_journal.proofs.JournalLaws.{one_fault_at}
 use Rattle.com_journal.proofs.LineLaws.{call-complete}
 

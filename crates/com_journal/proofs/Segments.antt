@@ -1,7 +1,6 @@
 -- Reading segments one after another.
-use Rattle.std.proofs.Common.{◌≡◌, ℕ, zero, suc, Option, Some, None, Result, Ok, Err, List, [], ◌∷◌, ◌++◌, refl, sym, ap, ◌∙◌, option_map, append_assoc}
+use Rattle.std.proofs.Common.{◌≡◌, ℕ, zero, suc, Option, Some, None, List, [], ◌∷◌, ◌++◌, refl, sym, ap, ◌∙◌, option_map, append_assoc}
 use Rattle.std.proofs.lemmas.List.{append-nil}
-use Rattle.std.proofs.lemmas.Option.{none-some}
 use Rattle.com_msg.specs.declared.message.TheConstants.{MAX_SEGMENT_LENGTH}
 use Rattle.com_journal.specs.declared.line.Unread.{Unread}
 use Rattle.com_journal.specs.declared.line.Unread.TheVariants as unread

@@ -1,5 +1,5 @@
 -- How a line is read, field by field from the left, for the functions that read one.
-use Rattle.std.specs.Prelude.{◌≡◌, ℕ, zero, suc, not, ◌+◌, ◌-◌, ◌*◌, ◌/◌, ◌^◌, Bool, true, false, ◌&&◌, ◌==◌, nat_lt, nat_le, nat_eq, List, [], ◌∷◌, length, take, drop, Option, Some, None, option_map, if◌then◌else◌, codes, decimal}
+use Rattle.std.specs.Prelude.{ℕ, zero, suc, not, ◌+◌, ◌-◌, ◌*◌, ◌^◌, Bool, ◌&&◌, ◌==◌, nat_lt, nat_le, nat_eq, List, [], ◌∷◌, length, take, drop, Option, Some, None, option_map, if◌then◌else◌, codes, decimal}
 use Rattle.std.specs.List.{after_first, concat, position_or_len, starts_with}
 use Rattle.std.specs.Str.{bytes_eq}
 use Rattle.com_text.specs.Text.{is_text}
@@ -7,7 +7,6 @@ use Rattle.com_text.specs.Name.{is_name}
 use Rattle.com_text.specs.Digits.{number}
 use Rattle.com_text.specs.Counted.{counted_field, is_colon}
 use Rattle.com_msg.specs.Stamp.{Moment, moment, is_moment}
-use Rattle.com_msg.specs.declared.framing.FrameFault.{FrameFault}
 use Rattle.com_msg.specs.declared.sending.Advance.{Advance}
 use Rattle.com_msg.specs.declared.sending.Advance.TheVariants.{Before, After, BeforePage, AfterPage}
 use Rattle.com_msg.specs.declared.sending.Part.{Part}

@@ -1,13 +1,12 @@
 -- How a line is written, field after field, for the functions that write one.
-use Rattle.std.specs.Prelude.{ℕ, List, [], ◌∷◌, ◌++◌, ◌≤◌, length, map, codes, decimal, Option, Some, None, IfSome, All}
-use Rattle.com_text.specs.Counted.{counted_field, IsCountable}
-use Rattle.com_msg.specs.declared.sending.Part.{Part}
+use Rattle.std.specs.Prelude.{ℕ, List, [], ◌∷◌, ◌++◌, codes, IfSome, All}
+use Rattle.com_text.specs.Counted.{IsCountable}
 use Rattle.com_events.specs.declared.call.Party.{Party}
 use Rattle.com_events.specs.declared.call.Party.TheVariants as party
 use Rattle.com_events.specs.declared.call.Call.{Call}
 use Rattle.com_events.specs.declared.call.Call.TheVariants.{Start, Receive, Count, Send, SwitchInput, SwitchOutput, Arrive, Held, Stop, Finish}
 use Rattle.com_events.specs.declared.reply.Reply.{Reply}
-use Rattle.com_events.specs.declared.reply.Reply.TheVariants.{Started, Given, NoData, Refused, Waits, AreaIn, AreaOut, Arrived, Done}
+use Rattle.com_events.specs.declared.reply.Reply.TheVariants.{Given}
 use Rattle.com_events.specs.declared.entry.Entry.{Entry}
 use Rattle.com_journal.specs.Lines.{call_fields, reply_fields}
 

@@ -38,6 +38,7 @@ pub fn write(alloc: Global, entries: &[Entry]) -> Result<Rows<u8>, AllocError>
 pub fn read(alloc: Global, bytes: &[u8]) -> Result<Rows<Entry>, JournalError>
     // What is read has these bytes as its journal, and a fault is that of the bytes.
     ensures read { IfOk result (λ entries. IsJournal entries bytes.now) }
+    ensures texts { IfOk result (All HasText) }
     ensures refused { IfErr result (Tells (IsJournalFault bytes.now)) }
     // A journal is read, and a fault is told, unless memory runs out.
     ensures each_journal { (history : List AnEntry) → IsJournal history bytes.now

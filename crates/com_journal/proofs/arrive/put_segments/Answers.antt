@@ -1,4 +1,4 @@
-use Rattle.std.proofs.Common.{◌++◌, ◌∷◌, length, sym, ap, ◌∙◌}
+use Rattle.std.proofs.Common.{◌++◌, ◌∷◌, length, sym, ◌∙◌}
 use Rattle.std.specs.Fmt.{decimal}
 use Rattle.com_text.specs.Counted.{counted_field}
 use Rattle.com_journal.proofs.Spelled.{written_more}

@@ -1,7 +1,7 @@
 use Rattle.std.proofs.Common.{rules, refl, sym, arith}
 use Rattle.std.proofs.lemmas.Bool.{false≢true}
 use Rattle.com_journal.proofs.Options.{None-of}
-use Rattle.com_journal.proofs.Numbers.{IsNumberIn-number_in, IsNumeral-number_in, number_in-number, number_in-out}
+use Rattle.com_journal.proofs.Numbers.{IsNumeral-number_in, number_in-number, number_in-out}
 use Rattle.com_journal.proofs.line.number_in.Goals.{else-least-number-via-then-least-number+else-number-most, else-least-number-via-else-least-number}
 use Rattle.com_journal.proofs.line.number_in.Goals as goal
 
