@@ -3,5 +3,6 @@ pub mod Building
 mod Choices
 mod LevelNames
 mod Searching
+mod TreeFacts
 pub mod Underneath
 pub mod Walks
