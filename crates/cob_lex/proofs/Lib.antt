@@ -8,3 +8,9 @@ pub mod LiteralSizes
 pub mod BadBytes
 pub mod Steps
 pub mod Refusals
+pub mod Longest
+pub mod LongestLiteral
+pub mod LongestPicture
+pub mod LongestFront
+pub mod SpelledTokens
+pub mod SpelledPlaces

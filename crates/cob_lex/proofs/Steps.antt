@@ -51,10 +51,10 @@ behind_token awaits place at (suc n) x xs some =
     let e : at + 1 + n ≡ at + suc n = omega arith in
     ap (λ m. text_tokens awaits m place (at + 1) xs) same ∙ skips awaits n place (at + 1) xs ∙ ap (λ m. text_tokens awaits 0 place m (drop n xs)) e
 
-abbrev token_step : Awaited → Place → ℕ → TokenKind → List ℕ → ℕ → Result Taken SourceFault → Result Taken SourceFault
+abbrev pub token_step : Awaited → Place → ℕ → TokenKind → List ℕ → ℕ → Result Taken SourceFault → Result Taken SourceFault
 token_step awaits place at kind bytes n others = token_of place at kind (take n bytes) >>= (λ token. others >>= (λ others. Ok (with_token token others)))
 
-at_token : (awaits : Awaited) (place : Place) (at : ℕ) (bytes : List ℕ) (kind : TokenKind) (n : ℕ) → 1 ≤ length bytes → 1 ≤ n → front_of awaits bytes ≡ fronts.Token kind n
+pub at_token : (awaits : Awaited) (place : Place) (at : ℕ) (bytes : List ℕ) (kind : TokenKind) (n : ℕ) → 1 ≤ length bytes → 1 ≤ n → front_of awaits bytes ≡ fronts.Token kind n
     → fronted awaits place at bytes ≡ token_step awaits place at kind bytes n (fronted (awaited_behind awaits kind (take n bytes)) place (at + n) (drop n bytes))
 unfolding text_tokens
 at_token awaits place at [] kind n some long h = absurd (omega arith)

@@ -4,3 +4,4 @@ pub mod Literals
 pub mod Fronts
 pub mod Lexing
 pub mod Answers
+pub mod Spelled

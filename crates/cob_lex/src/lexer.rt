@@ -3,6 +3,7 @@ ghost use Rattle.std.specs.Prelude.{◌≡◌, ◌+◌, ◌≤◌, IfErr, IfOk, 
 ghost use Rattle.cob_lex.specs.Lexing.{fault_at, line_tokens, taken, text_tokens, token_of, tokens_of};
 ghost use Rattle.cob_lex.specs.Lines.{text_of};
 ghost use Rattle.cob_lex.specs.Answers.{IsRefusal, with_front};
+ghost use Rattle.cob_lex.specs.Spelled.{AreTokens};
 
 use crate::front::{Awaited, Front, awaited_behind, front_of};
 use crate::lines::{
@@ -15,10 +16,11 @@ use std::alloc::Global;
 /// The bytes that a source may have.
 pub const MAX_SOURCE: usize = 1_048_576;
 
-/// The tokens of a source.
+/// The tokens of a source, or its first fault. Memory where memory ran out.
 pub fn lex(alloc: Global, bytes: &[u8]) -> Result<Rows<Token>, SourceError>
     requires { length bytes.now ≤ MAX_SOURCE }
     ensures tokens { IfOk result (λ tokens. tokens_of bytes.now ≡ Ok tokens) }
+    ensures spelled { IfOk result (λ tokens. AreTokens bytes.now tokens) }
     ensures fault { IfErr result (λ error. IsRefusal error (tokens_of bytes.now)) }
 {
     let mut tokens = Vec::new(alloc);
