@@ -2,8 +2,8 @@ mod Awaited
 mod Choosing
 mod Designating
 mod Fields
-mod Handing
-mod Places
+pub mod Handing
+pub mod Places
 mod Receiving
 mod Taking
 pub mod Members

@@ -20,25 +20,26 @@ pub record SameInput (S next : State) : Type 0 where
   pub incoming : next.incoming ≡ S.incoming
   pub arrivals : next.arrivals ≡ S.arrivals
   pub units : next.units ≡ S.units
+  pub terminals : next.terminals ≡ S.terminals
 
 -- a state and itself
 pub same_input : (S : State) → SameInput S S
-same_input S = record { net = refl; incoming = refl; arrivals = refl; units = refl }
+same_input S = record { net = refl; incoming = refl; arrivals = refl; units = refl; terminals = refl }
 
 -- SEND, and ENABLE and DISABLE OUTPUT
 pub aside_answered : (S : State) (answer : Answer) → SameInput S (answered S answer).1
-aside_answered S answer = record { net = refl; incoming = refl; arrivals = refl; units = refl }
+aside_answered S answer = record { net = refl; incoming = refl; arrivals = refl; units = refl; terminals = refl }
 
 -- ENABLE and DISABLE INPUT
 aside_leaves : (S : State) (on : Bool) (area key : List ℕ) (node : Node) → SameInput S (switch_leaves S on area key node).1
 aside_leaves S on area key node = elim (cases_Bool (is_key key (slice_get S.net.queue_passwords (top_of S.net.tree node)))) [
-  | inl right ↦ rw (right, switch_leaves) record { net = refl; incoming = refl; arrivals = refl; units = refl }
+  | inl right ↦ rw (right, switch_leaves) record { net = refl; incoming = refl; arrivals = refl; units = refl; terminals = refl }
   | inr wrong ↦ rw (wrong, switch_leaves) (same_input S)
 ]
 
 aside_terminal : (S : State) (on : Bool) (area key : List ℕ) (terminal : ℕ) → SameInput S (switch_terminal S on area key terminal).1
 aside_terminal S on area key terminal = elim (cases_Bool (is_key key (option_map (λ t. t.password) (slice_get S.net.terminals terminal)))) [
-  | inl right ↦ rw (right, switch_terminal) record { net = refl; incoming = refl; arrivals = refl; units = refl }
+  | inl right ↦ rw (right, switch_terminal) record { net = refl; incoming = refl; arrivals = refl; units = refl; terminals = refl }
   | inr wrong ↦ rw (wrong, switch_terminal) (same_input S)
 ]
 

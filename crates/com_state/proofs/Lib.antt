@@ -29,3 +29,8 @@ pub mod Portions
 pub mod Runs
 pub mod Verbs
 pub mod Whole
+mod Fronts
+mod Idling
+mod Owned
+mod Telling
+mod Settled

@@ -1,5 +1,5 @@
 -- A step is that of a unit or of a terminal.
-use Rattle.std.proofs.Common.{◌≡◌, ℕ, List, Some, inl, inr}
+use Rattle.std.proofs.Common.{◌≡◌, ℕ, List, Some, None, refl, inl, inr}
 use Rattle.std.proofs.lemmas.Option.{none-some}
 use Rattle.com_events.specs.declared.call.Party.TheVariants as party
 use Rattle.com_events.specs.declared.call.Call.{Call}
@@ -31,3 +31,21 @@ pub unit_of_step : (S : State) (name : List ℕ) (unit : ℕ) (call : Call) (rep
     → unit_step S unit call ≡ Some (reply, next)
 unfolding step
 unit_of_step S name unit call reply next found h = rw (found, step) at h
+
+-- a step is that of the unit or terminal with this name
+pub unit_steps : (S : State) (name : List ℕ) (unit : ℕ) (call : Call) → unit_number S.net name ≡ Some unit → step S (party.Unit name) call ≡ unit_step S unit call
+unfolding step
+unit_steps S name unit call found = rw (found, step) refl
+
+pub terminal_steps : (S : State) (name : List ℕ) (terminal : ℕ) (call : Call) → terminal_number S.net name ≡ Some terminal → step S (party.Terminal name) call ≡ terminal_step S terminal name call
+unfolding step
+terminal_steps S name terminal call found = rw (found, step) refl
+
+-- a party that the network has not has no step
+pub no_unit_steps : (S : State) (name : List ℕ) (call : Call) → unit_number S.net name ≡ None → step S (party.Unit name) call ≡ None
+unfolding step
+no_unit_steps S name call none = rw (none, step) refl
+
+pub no_terminal_steps : (S : State) (name : List ℕ) (call : Call) → terminal_number S.net name ≡ None → step S (party.Terminal name) call ≡ None
+unfolding step
+no_terminal_steps S name call none = rw (none, step) refl

@@ -2,7 +2,9 @@
 use Rattle.std.specs.Prelude.{◌≡◌, ℕ, ◌≤◌, ◌⊎◌, Bool, true, false, ◌==◌, List, [], length, Option, Some, None, option_map, slice_get, unwrap_or}
 use Rattle.std.specs.List.{filter}
 use Rattle.com_events.specs.declared.call.Call.{Call}
-use Rattle.com_events.specs.declared.call.Call.TheVariants.{Receive, Count, Send, SwitchInput, SwitchOutput, Arrive}
+use Rattle.com_events.specs.declared.call.Call.TheVariants.{Receive, Count, Send, SwitchInput, SwitchOutput, Arrive, Stop, Finish}
+use Rattle.com_events.specs.declared.call.StopReason.TheVariants as stop
+use Rattle.com_events.specs.declared.call.EndReason.TheVariants as finish
 use Rattle.com_events.specs.declared.reply.Reply.{Reply}
 use Rattle.com_events.specs.declared.reply.Reply.TheVariants.{Refused, AreaIn, AreaOut}
 use Rattle.com_cd.specs.InputArea.{in_field, set_in}
@@ -85,3 +87,9 @@ pub record ChangesStatusAlone (S : State) (call : Call) (status : Status) (reply
     (next : State) : Type 0 where
   pub area : with_status_alone call status ≡ Some reply
   pub state : next ≡ record S { units = next.units }
+
+-- STOP IDLE and END IDLE
+abbrev pub is_idle_call : Call → Bool
+is_idle_call (Stop stop.Idle) = true
+is_idle_call (Finish finish.Idle) = true
+is_idle_call _ = false

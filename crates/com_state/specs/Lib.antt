@@ -6,3 +6,5 @@ pub mod Histories
 pub mod Wholeness
 pub mod Transcripts
 pub mod Laws
+pub mod Parties
+pub mod Reached

@@ -1,5 +1,23 @@
 //! Laws of the definitions. A function here does nothing; its contract is the law.
-ghost use Rattle.std.specs.Prelude.{◌≡◌, ◌≢◌, ◌≤◌, ℕ, Bool, List, [], length, Some, IsTrue};
+ghost use Rattle.std.specs.Prelude.{
+  ◌≡◌,
+  ◌≢◌,
+  ◌≤◌,
+  ℕ,
+  Bool,
+  true,
+  List,
+  [],
+  ◌∷◌,
+  ◌++◌,
+  length,
+  map,
+  Option,
+  Some,
+  None,
+  is_some,
+  IsTrue,
+};
 ghost use Rattle.com_msg.specs.declared.rest.Kind.{Kind as KindOf};
 ghost use Rattle.com_events.specs.declared.call.Party.{Party as PartyOf};
 ghost use Rattle.com_events.specs.declared.call.Party.TheVariants as party;
@@ -12,14 +30,24 @@ ghost use Rattle.com_events.specs.Calls.{IsWellFormed};
 ghost use Rattle.com_cd.specs.declared.status.Status.{Status as StatusOf};
 ghost use Rattle.com_msg.specs.Begun.{Begun as BegunOf, nothing_begun};
 ghost use Rattle.com_send.specs.Outgoing.{begun_for};
-ghost use Rattle.com_state.specs.State.{State as SystemState};
+ghost use Rattle.com_state.specs.declared.parties.UnitMode.TheVariants.{Stopped};
+ghost use Rattle.com_state.specs.declared.parties.TerminalMode.TheVariants.{Ended};
+ghost use Rattle.com_state.specs.State.{State as SystemState, opening, unit_mode, terminal_mode};
 ghost use Rattle.com_net.specs.declared.net.Net.{Net as NetOf};
 ghost use Rattle.com_events.specs.declared.entry.Entry.{Entry as EntryOf};
-ghost use Rattle.com_net.specs.Numbers.{unit_number};
-ghost use Rattle.com_state.specs.Histories.{Legal, IsRun};
-ghost use Rattle.com_state.specs.Steps.{step};
+ghost use Rattle.com_net.specs.Numbers.{unit_number, terminal_number};
+ghost use Rattle.com_state.specs.Histories.{LeadsTo, Legal, IsRun, run, call_made, state_after};
+ghost use Rattle.com_state.specs.Parties.{
+  entries_of,
+  unit_by,
+  terminal_by,
+  may_by_unit,
+  may_by_terminal,
+};
+ghost use Rattle.com_state.specs.Reached.{IsToldBy};
+ghost use Rattle.com_state.specs.Steps.{step, is_idle};
 ghost use Rattle.com_state.specs.Wholeness.{EveryHistoryIsWhole};
-ghost use Rattle.com_state.specs.Laws.{Keeps, rests_of, is_refusal, Tells, ChangesStatusAlone};
+ghost use Rattle.com_state.specs.Laws.{Keeps, rests_of, is_refusal, is_idle_call, Tells, ChangesStatusAlone};
 
 /// Every step leaves the network; only ARRIVE makes more messages wait; and what is queued for a
 /// terminal is still queued behind it, but for ENABLE OUTPUT.
@@ -85,4 +113,78 @@ pub fn every_history_is_whole()
 pub fn shown_is_legal()
     ensures legal { (net : NetOf) (history : List EntryOf) → IsRun net history → Legal net history }
     ensures shown { (net : NetOf) (history : List EntryOf) → Legal net history → IsRun net history }
+{}
+
+/// One call in one state has one reply, and leaves one state.
+pub fn a_step_is_determined()
+    ensures { (S next another : SystemState) (who : PartyOf) (call : CallOf)
+        (reply other : ReplyOf) → step S who call ≡ Some (reply, next) →
+        step S who call ≡ Some (other, another) → (reply ≡ other) × (next ≡ another) }
+{}
+
+/// The front of a legal history is legal.
+pub fn a_front_is_legal()
+    ensures { (net : NetOf) (front behind : List EntryOf) → Legal net (front ++ behind) →
+        Legal net front }
+{}
+
+/// A step makes a history longer by its own entry.
+pub fn a_step_is_one_entry_more()
+    ensures { (first S next : SystemState) (history : List EntryOf) (entry : EntryOf) →
+        LeadsTo first history S → step S entry.party entry.call ≡ Some (entry.reply, next) →
+        LeadsTo first (history ++ entry ∷ []) next }
+{}
+
+/// A legal history leaves the state that After tells of it, and no other.
+pub fn a_legal_history_leaves_one_state()
+    ensures left { (net : NetOf) (history : List EntryOf) (last : SystemState) →
+        LeadsTo (opening net) history last → state_after net history ≡ Some last }
+    ensures alone { (net : NetOf) (history : List EntryOf) (last : SystemState) →
+        Legal net history → state_after net history ≡ Some last →
+        LeadsTo (opening net) history last }
+{}
+
+/// The run of a list of calls is legal, and makes just these calls.
+pub fn a_run_is_legal()
+    ensures { (net : NetOf) (calls : List (PartyOf × CallOf)) (history : List EntryOf)
+        (last : SystemState) → run net calls ≡ Some (history, last) →
+        (map call_made history ≡ calls) × LeadsTo (opening net) history last }
+{}
+
+/// An idle system allows no call but STOP IDLE and END IDLE.
+pub fn an_idle_system_only_stops_and_ends()
+    ensures { (S next : SystemState) (who : PartyOf) (call : CallOf) (reply : ReplyOf) →
+        is_idle S ≡ true → step S who call ≡ Some (reply, next) → is_idle_call call ≡ true }
+{}
+
+/// A unit that has stopped has no call, and neither has a terminal that has ended.
+pub fn no_call_is_left_at_the_end()
+    ensures stopped { (S : SystemState) (name : List ℕ) (unit : ℕ) (call : CallOf) →
+        unit_number S.net name ≡ Some unit → unit_mode S unit ≡ Some Stopped →
+        step S (party.Unit name) call ≡ None }
+    ensures ended { (S : SystemState) (name : List ℕ) (terminal : ℕ) (call : CallOf) →
+        terminal_number S.net name ≡ Some terminal → terminal_mode S terminal ≡ Some Ended →
+        step S (party.Terminal name) call ≡ None }
+{}
+
+/// The entries of a party alone tell its mode and its count.
+pub fn entries_tell_of_their_party()
+    ensures { (net : NetOf) (history : List EntryOf) (last : SystemState) →
+        LeadsTo (opening net) history last → IsToldBy net history last }
+{}
+
+/// So they tell what the party may do next, where its mode and its count alone settle that.
+pub fn entries_tell_what_their_party_may_do()
+    ensures unit { (net : NetOf) (history : List EntryOf) (last : SystemState) (name : List ℕ)
+        (unit : ℕ) (call : CallOf) (may : Bool) → LeadsTo (opening net) history last →
+        unit_number net name ≡ Some unit →
+        may_by_unit call (unit_by (entries_of (party.Unit name) history)).mode
+        (unit_by (entries_of (party.Unit name) history)).verbs ≡ Some may →
+        is_some (step last (party.Unit name) call) ≡ may }
+    ensures terminal { (net : NetOf) (history : List EntryOf) (last : SystemState)
+        (name : List ℕ) (terminal : ℕ) (call : CallOf) (may : Bool) →
+        LeadsTo (opening net) history last → terminal_number net name ≡ Some terminal →
+        may_by_terminal call (terminal_by (entries_of (party.Terminal name) history)).mode
+        ≡ Some may →
+        is_some (step last (party.Terminal name) call) ≡ may }
 {}

@@ -1,11 +1,35 @@
-//! The one-thread message control system: its definitions, and what holds of every step.
+//! The one-thread message control system: its definitions, and what holds of every step and history.
+//!
+//! A crate above cites the definitions and the laws, and opens no step:
+//!
+//! ```rust
+//! ghost use Rattle.com_state.specs.State.{opening};
+//! ghost use Rattle.com_state.specs.Histories.{Legal};
+//! ghost use Rattle.com_state.specs.Steps.{step};
+//!
+//! pub fn replay(net: &Net, calls: &[Call]) -> Vec<Entry>
+//!     ensures { Legal net.now result }
+//! ```
+//!
+//! - `step` is what a call is answered and the state that it leaves, `opening` the state of a network
+//!   in which nothing has happened, and `Legal` tells which histories are the system's.
+//! - What comes in is com_recv's `Incoming`, what goes out com_send's `Outgoing`: their definitions are
+//!   the system's.
+//! - [`every_history_is_whole`]: every legal history hands each message out whole, to one unit, and in
+//!   the order of arrival on each leaf.
+//! - [`entries_tell_of_their_party`]: a party's own entries tell its mode and its count.
+//!
+//! The functions here do nothing; their contracts are the laws.
 #![tactic(auto)]
 
 mod laws;
 mod parties;
 
 pub use laws::{
-    a_portion_is_no_longer_than_asked, a_refusal_changes_the_status_alone, every_history_is_whole,
+    a_front_is_legal, a_legal_history_leaves_one_state, a_portion_is_no_longer_than_asked,
+    a_refusal_changes_the_status_alone, a_run_is_legal, a_step_is_determined,
+    a_step_is_one_entry_more, an_idle_system_only_stops_and_ends, entries_tell_of_their_party,
+    entries_tell_what_their_party_may_do, every_history_is_whole, no_call_is_left_at_the_end,
     nothing_is_left_of_a_stopped_unit, others_are_left_by_a_stop, others_keep_their_rests,
     shown_is_legal, step_keeps,
 };
