@@ -1,5 +1,5 @@
 -- The rule holds at the opening, and each pass that is dealt out is new.
-use Rattle.std.proofs.Common.{◌≡◌, ℕ, zero, suc, ◌+◌, ◌^◌, ◌<◌, false, cond, Option, Some, None, List, [], ◌∷◌, ◌++◌, length, filter, slice_get, count_by, sym, refl, ap, ◌∙◌, subst, arith, length-append, eqb}
+use Rattle.std.proofs.Common.{◌≡◌, ℕ, zero, suc, ◌+◌, ◌^◌, ◌<◌, cond, Option, Some, None, List, [], ◌∷◌, ◌++◌, length, filter, slice_get, count_by, sym, refl, ap, ◌∙◌, subst, arith, length-append, eqb}
 use mathlib.Core.Option.{some, some-injective, some-ne-none}
 use mathlib.Core.Logic.{dite}
 use native.Mathlib.Decide.{ℕ_discrete}
@@ -10,13 +10,11 @@ use Rattle.std.proofs.Math.Seq.{drop-length}
 use Rattle.atomic_table.specs.Table.{opening}
 use Rattle.atomic_table.specs.Seated.{TableId}
 use Rattle.atomic_table.specs.declared.shared.Seat.{Seat}
-use Rattle.com_turn.specs.declared.view.Stage.TheVariants.{Idle}
 use Rattle.com_turn.specs.declared.view.View.{View}
 use Rattle.com_turn.specs.declared.view.Opening.{Opening}
-use Rattle.com_turn.specs.Histories.{IsPrefixOf}
 use Rattle.com_turn.specs.Toggles.{party_of, is_active}
 use Rattle.com_turn.specs.Passes.{PassState, new_pass, AreNew}
-use Rattle.com_turn.specs.Views.{first_view, view_of_next, carried, is_at_turn, shown, IsSettled}
+use Rattle.com_turn.specs.Views.{first_view, view_of_next, is_at_turn, shown}
 use Rattle.com_turn.specs.Rule.{History, Tickets, IsLive, IsBelow, IsCount, IsRuled}
 use Rattle.com_turn.proofs.Lists.{None-Some, no_item, slice_get-front, slice_get-last}
 use Rattle.com_turn.proofs.Fronts.{prefix_refl, seen_all}
@@ -69,20 +67,6 @@ module _ {V I B : Type 0} (log_of : V → List I) (base_of : V → B) (owner : I
         apart = λ i x at_x lx j u e lu ne. absurd (ne ((alone v x i at_x).0 ∙ sym (alone v u j e).0));
       }
 
--- a seat with a view that is new is that of a new pass
-pub settled_new : {V I B : Type 0} (base_of : V → B) (opened : Opening V) (seat : Seat (Option V) (View I B)) (view : View I B) → seat.me ≡ (view, []) → view.known.base ≡ Some (base_of opened.value.value) → view.stage ≡ Idle → view.olds ≡ [] → view.spent ≡ false
-    → IsPrefixOf view.known.opened view.known.seen → IsSettled base_of opened seat
-settled_new {V} {I} {B} base_of opened seat view me base idle bare live front =
-    let is : seat.me.0 ≡ view = ap (λ (z : View I B × List (ℕ × Option V)). z.0) me in
-    let stage : seat.me.0.stage ≡ Idle = ap (λ (z : View I B). z.stage) is ∙ idle in record {
-      base = ap (λ (z : View I B). z.known.base) is ∙ base;
-      no_ticket = λ _. stage;
-      slots = ap (λ (z : View I B × List (ℕ × Option V)). z.1) me ∙ sym (ap carried stage);
-      no_olds = ap (λ (z : View I B). z.olds) is ∙ bare;
-      live = ap (λ (z : View I B). z.spent) is ∙ live;
-      past_opening = subst (λ (z : View I B). IsPrefixOf z.known.opened z.known.seen) (sym is) front;
-    }
-
 module _ {V I B : Type 0} (base_of : V → B) (opened : Opening V) (turn : TableId) (log : List I) where
   -- the view that has given out the numbers below this one
   abbrev pub giver : ℕ → View I B
@@ -93,12 +77,12 @@ module _ {V I B : Type 0} (base_of : V → B) (opened : Opening V) (turn : Table
     pub long : length passes + 1 ≡ number
     pub each : (i : ℕ) → i + 1 < number → slice_get passes i ≡ Some (new_pass turn opened.parties (base_of opened.value.value) log (i + 1))
 
-  pub shown_next : (seat : Seat (Option V) (View I B)) (number : ℕ) → seat.table_id ≡ turn → seat.me ≡ (view_of_next (giver number), []) → shown base_of opened seat ≡ new_pass turn opened.parties (base_of opened.value.value) log number
+  pub shown_next : (seat : Seat (Option V) (View I B)) (number : ℕ) → seat.table_id ≡ turn → seat.me ≡ (view_of_next (giver number), []) → shown seat ≡ new_pass turn opened.parties (base_of opened.value.value) log number
   shown_next seat number own me = λ k. record {
     turn = own k;
     number = (me k).0.known.number;
     parties = (me k).0.known.parties;
-    base = base_of opened.value.value;
+    base = (me k).0.known.base;
     opened = (me k).0.known.opened;
     seen = (me k).0.known.seen;
     toggles = (me k).0.known.toggles;
@@ -108,12 +92,12 @@ module _ {V I B : Type 0} (base_of : V → B) (opened : Opening V) (turn : Table
     found = (me k).0.found;
   }
 
-  pub shown_first : (seat : Seat (Option V) (View I B)) (number : ℕ) → seat.table_id ≡ turn → seat.me ≡ (giver number, []) → shown base_of opened seat ≡ new_pass turn opened.parties (base_of opened.value.value) log 0
+  pub shown_first : (seat : Seat (Option V) (View I B)) (number : ℕ) → seat.table_id ≡ turn → seat.me ≡ (giver number, []) → shown seat ≡ new_pass turn opened.parties (base_of opened.value.value) log 0
   shown_first seat number own me = λ k. record {
     turn = own k;
     number = (me k).0.known.number;
     parties = (me k).0.known.parties;
-    base = base_of opened.value.value;
+    base = (me k).0.known.base;
     opened = (me k).0.known.opened;
     seen = (me k).0.known.seen;
     toggles = (me k).0.known.toggles;

@@ -1,5 +1,5 @@
 -- One seat takes in what all passes know, and what it knows of the value at the end.
-use Rattle.std.proofs.Common.{◌≡◌, ℕ, false, Option, List, [], ◌∷◌, ◌++◌, length, get_or, All, Contains, sym, ap, ◌∙◌, subst, ⊎_elim, inl, inr, arith, append_assoc}
+use Rattle.std.proofs.Common.{Some, ◌≡◌, ℕ, false, Option, List, [], ◌∷◌, ◌++◌, length, get_or, All, Contains, sym, ap, ◌∙◌, subst, ⊎_elim, inl, inr, arith, append_assoc}
 use Rattle.std.proofs.lemmas.List.{append-nil}
 use Rattle.std.proofs.lemmas.List.Elements.{Contains-append_left, Contains-append_right}
 use Rattle.atomic_table.specs.Seated.{TableId}
@@ -11,7 +11,7 @@ use Rattle.com_turn.specs.Histories.{IsPrefixOf, items_of}
 use Rattle.com_turn.specs.Passes.{PassState, IsReady, AreReady, IsKept, AgreeOnToggles}
 use Rattle.com_turn.specs.Views.{joined, known_of, Gathers}
 use Rattle.com_turn.specs.Rule.{Knows, HasEveryNumber, IsClosed}
-use Rattle.com_turn.proofs.Lists.{Some-injective, no_item, contains_cons, contains_first, contains_rest, slice_get-within, get_of_index, index_of_get, index_any}
+use Rattle.com_turn.proofs.Lists.{no_item, contains_cons, contains_first, contains_rest, slice_get-within, get_of_index, index_of_get, index_any}
 
 module _ {I B : Type 0} where
   gathers_still : (v w : View I B) (known : Known I B) → Gathers v known → Gathers (joined v w) known
@@ -92,7 +92,7 @@ module _ {V I B : Type 0} (log_of : V → List I) (base_of : V → B) (owner : I
 
   kept : (pass : PassState I B) → Gathers view (known_of pass) → IsKept log_of base_of owner value pass
   kept pass g = let k = knows pass g in record {
-    base = c.base ∙ sym (Some-injective pass.base c.history.base k.base);
+    base = k.base ∙ ap Some (sym c.base);
     seen = subst (IsPrefixOf pass.seen) (sym c.log) k.items.front;
     own = (λ i. items_of owner pass.number (length (k.opened i)) (c.log i)) ∙ (sym k.items.own ∙ (λ i. items_of owner pass.number (length (sym k.opened i)) pass.seen));
   }

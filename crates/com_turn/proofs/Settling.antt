@@ -4,7 +4,6 @@ use Rattle.atomic_table.specs.declared.shared.Seat.{Seat}
 use Rattle.com_turn.specs.declared.view.Stage.{Stage}
 use Rattle.com_turn.specs.declared.view.Stage.TheVariants.{Idle, Waiting, Holding}
 use Rattle.com_turn.specs.declared.view.View.{View}
-use Rattle.com_turn.specs.declared.view.Opening.{Opening}
 use Rattle.com_turn.specs.Histories.{IsPrefixOf}
 use Rattle.com_turn.specs.Passes.{PassState, mine}
 use Rattle.com_turn.specs.Views.{carried, is_at_turn, with_item, IsSettled}
@@ -18,13 +17,12 @@ ticket_at_turn Idle e = absurd (clash e)
 ticket_at_turn (Waiting ticket) e = absurd (clash e)
 ticket_at_turn (Holding ticket) e = (ticket, refl)
 
-module _ {V I B : Type 0} (base_of : V → B) (opened : Opening V) where
+module _ {V I B : Type 0} where
   -- a seat whose view has one item more
-  pub settled_item : (seat after : Seat (Option V) (View I B)) (item : I) → after.me ≡ (with_item item seat.me.0, seat.me.1) → IsSettled base_of opened seat → IsSettled base_of opened after
+  pub settled_item : (seat after : Seat (Option V) (View I B)) (item : I) → after.me ≡ (with_item item seat.me.0, seat.me.1) → IsSettled seat → IsSettled after
   settled_item seat after item e h =
       let view : after.me.0 ≡ with_item item seat.me.0 = ap (λ (z : View I B × List (ℕ × Option V)). z.0) e in
       let stage : after.me.0.stage ≡ seat.me.0.stage = ap (λ (z : View I B). z.stage) view in record {
-        base = ap (λ (z : View I B). z.known.base) view ∙ h.base;
         no_ticket = λ not. stage ∙ h.no_ticket (ap is_at_turn (sym stage) ∙ not);
         slots = ap (λ (z : View I B × List (ℕ × Option V)). z.1) e ∙ (h.slots ∙ ap carried (sym stage));
         no_olds = ap (λ (z : View I B). z.olds) view ∙ h.no_olds;

@@ -13,8 +13,8 @@ pub record PassState (I B : Type 0) : Type 0 where
   pub turn : TurnId
   pub number : ℕ
   pub parties : ℕ
-  -- the base and the log with which the turn was opened
-  pub base : B
+  -- the base and the log with which the turn was opened; every pass of a turn has a base
+  pub base : Option B
   pub opened : List I
   -- the log as far as it has seen it, and who became active or inactive until then
   pub seen : List I
@@ -36,7 +36,7 @@ new_pass turn parties base log number = record {
   turn = turn;
   number = number;
   parties = parties;
-  base = base;
+  base = Some base;
   opened = log;
   seen = log;
   toggles = [];
@@ -66,7 +66,7 @@ AreReady {I} {B} turn passes = (i : ℕ) (pass : PassState I B) → slice_get pa
 -- What is known of a pass and of the value at the end: the base is the pass's, the log begins with what the pass has
 -- seen, and the pass's own entries are all that the log has of its party.
 pub record IsKept {V I B : Type 0} (log_of : V → List I) (base_of : V → B) (owner : I → ℕ) (value : V) (pass : PassState I B) : Type 0 where
-  pub base : base_of value ≡ pass.base
+  pub base : pass.base ≡ Some (base_of value)
   pub seen : IsPrefixOf pass.seen (log_of value)
   pub own : items_of owner pass.number (length pass.opened) (log_of value) ≡ mine owner pass
 

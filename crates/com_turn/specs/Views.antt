@@ -6,7 +6,6 @@ use Rattle.com_turn.specs.declared.view.Known.{Known}
 use Rattle.com_turn.specs.declared.view.Stage.{Stage}
 use Rattle.com_turn.specs.declared.view.Stage.TheVariants.{Idle, Waiting, Holding}
 use Rattle.com_turn.specs.declared.view.View.{View}
-use Rattle.com_turn.specs.declared.view.Opening.{Opening}
 use Rattle.com_turn.specs.Histories.{IsPrefixOf, longer}
 use Rattle.com_turn.specs.Toggles.{toggle_of}
 use Rattle.com_turn.specs.Passes.{PassState}
@@ -121,12 +120,12 @@ carried (Waiting ticket) = []
 carried (Holding ticket) = (0, None) ∷ []
 
 -- what a pass shows of its seat
-abbrev pub shown : {V I B : Type 0} → (V → B) → Opening V → Seat (Option V) (View I B) → PassState I B
-shown base_of opening seat = let view = seat.me.0 in record {
+abbrev pub shown : {V I B : Type 0} → Seat (Option V) (View I B) → PassState I B
+shown seat = let view = seat.me.0 in record {
   turn = seat.table_id;
   number = view.known.number;
   parties = view.known.parties;
-  base = base_of opening.value.value;
+  base = view.known.base;
   opened = view.known.opened;
   seen = view.known.seen;
   toggles = view.known.toggles;
@@ -138,15 +137,14 @@ shown base_of opening seat = let view = seat.me.0 in record {
 
 -- what the view of a pass knows
 abbrev pub known_of : {I B : Type 0} → PassState I B → Known I B
-known_of pass = record { number = pass.number; parties = pass.parties; base = Some pass.base; opened = pass.opened; seen = pass.seen; toggles = pass.toggles }
+known_of pass = record { number = pass.number; parties = pass.parties; base = pass.base; opened = pass.opened; seen = pass.seen; toggles = pass.toggles }
 
 -- the view knows it, or took it in
 abbrev pub Gathers : {I B : Type 0} → View I B → Known I B → Type 0
 Gathers view known = (view.known ≡ known) ⊎ Contains view.olds known
 
 -- A seat as a pass has it between two calls: live, with no olds, and without a ticket or at its turn.
-pub record IsSettled {V I B : Type 0} (base_of : V → B) (opening : Opening V) (seat : Seat (Option V) (View I B)) : Type 0 where
-  pub base : seat.me.0.known.base ≡ Some (base_of opening.value.value)
+pub record IsSettled {V I B : Type 0} (seat : Seat (Option V) (View I B)) : Type 0 where
   pub no_ticket : is_at_turn seat.me.0.stage ≡ false → seat.me.0.stage ≡ Idle
   pub slots : seat.me.1 ≡ carried seat.me.0.stage
   pub no_olds : seat.me.0.olds ≡ []

@@ -5,9 +5,7 @@ ghost use Rattle.com_turn.specs.declared.view.Stage.TheVariants.{Idle};
 
 use crate::board::SeatOf;
 use crate::logged::Logged;
-use crate::view::Opening;
 use std::marker::Model;
-use std::snapshot::Snapshot;
 
 /// What one party has of a turn. Contracts see its number, the number of parties, the base and the log at the opening,
 /// the log as far as it has seen it, who became active or inactive until then, whether it is at its turn, whether it is
@@ -15,7 +13,6 @@ use std::snapshot::Snapshot;
 #[derive(Drop)]
 pub struct Pass<V: Logged> {
     pub(crate) seat: SeatOf<V>,
-    pub(crate) opening: Snapshot<Opening<V>>,
     pub(crate) number: u32,
     pub(crate) active: bool,
 }
@@ -28,21 +25,20 @@ impl<V: Logged> Model for Pass<V> {
 
     ghost use Rattle.com_turn.specs.Views.{shown, IsSettled};
 
-    ghost view = { λ p. shown V.base p.opening.value p.seat };
+    ghost view = { λ p. shown p.seat };
 
-    ghost invariant = { λ p. IsSettled V.base p.opening.value p.seat × (p.number ≡ p.seat.me.0.known.number) × (p.active ≡ p.seat.me.0.active) };
+    ghost invariant = { λ p. IsSettled p.seat × (p.number ≡ p.seat.me.0.known.number) × (p.active ≡ p.seat.me.0.active) };
 }
 
 impl<V: Logged> Pass<V> {
-    pub(crate) fn new(seat: SeatOf<V>, number: u32, opening: &Opening<V>) -> Pass<V>
-        requires settled { IsSettled V.base opening.now seat }
+    pub(crate) fn new(seat: SeatOf<V>, number: u32) -> Pass<V>
+        requires settled { IsSettled seat }
         requires number { number ≡ seat.me.0.known.number }
         requires inactive { seat.me.0.active ≡ false }
-        ensures { result ≡ shown V.base opening.now seat }
+        ensures { result ≡ shown seat }
     {
         Pass {
             seat,
-            opening: Snapshot::of(opening),
             number,
             active: false,
         }
@@ -71,7 +67,6 @@ impl<V: Logged> Pass<V> {
     {
         let Pass {
             seat,
-            opening: _,
             number: _,
             active: _,
         } = self;

@@ -25,12 +25,12 @@ pub(crate) fn deal<V: Logged>(
     let mut passes = passes;
     for number in 1..opening.parties {
         let next = board.give_number(&mut seat);
-        match passes.push(Pass::new(next, number, opening)) {
+        match passes.push(Pass::new(next, number)) {
             Ok(()) => {}
             Err(_) => unreachable!(),
         }
     }
-    match passes.insert(0, Pass::new(seat, 0, opening)) {
+    match passes.insert(0, Pass::new(seat, 0)) {
         Ok(()) => {}
         Err(_) => unreachable!(),
     }

@@ -78,7 +78,7 @@ impl<V: Logged> Turn<V> {
         requires idle { pass.old.at_turn ≡ false }
         // the pass is at its turn, and has seen the log and all toggles
         ensures pass { pass.new ≡ record pass.old { seen = V.log result; toggles = pass.new.toggles; at_turn = true; turns = pass.old.turns + 1; found = None } }
-        ensures base { V.base result ≡ pass.old.base }
+        ensures base { pass.old.base ≡ Some (V.base result) }
         // both begin with what it had seen, and nothing of its own is new
         ensures seen { IsPrefixOf pass.old.seen (V.log result) }
         ensures mine { mine V.owner pass.new ≡ mine V.owner pass.old }
@@ -125,7 +125,7 @@ impl<V: Logged> Turn<V> {
         requires turn { pass.old.turn ≡ self.now }
         requires at_turn { pass.old.at_turn ≡ true }
         requires log { V.log value ≡ pass.old.seen }
-        requires base { V.base value ≡ pass.old.base }
+        requires base { pass.old.base ≡ Some (V.base value) }
         ensures { pass.new ≡ record pass.old { at_turn = false } }
     {
         self.board.put(&mut pass.seat, value);

@@ -131,23 +131,37 @@ pub fn write_in_scope<R: Threads + Wait + Sync>(
     )
 }
 
-/// Each pass writes rows in a thread of its own.
-pub fn write_in_threads<R: Threads + Wait + Sync>(
+/// Four threads write rows, each with a pass of its own, and whether they could be started.
+pub fn write_in_two_scopes<R: Threads + Wait + Sync>(
     rt: &R,
     turn: &Turn<Diary>,
-    passes: Vec<Pass<Diary>>,
+    left: (Pass<Diary>, Pass<Diary>),
+    right: (Pass<Diary>, Pass<Diary>),
     count: u32,
-) -> Result<Vec<Pass<Diary>>, AllocError>
-    requires { AreReady turn.now passes.items }
-    ensures { IfOk result (λ all. (length all.items ≡ length passes.items) × AreReady turn.now all.items) }
+) -> bool
+    requires left { IsFree turn.now left.0 × IsFree turn.now left.1 }
+    requires right { IsFree turn.now right.0 × IsFree turn.now right.1 }
 {
-    thread::map_vec(
+    let (first, second) = left;
+    let (third, fourth) = right;
+    thread::scope(
+        thread::scope_env(),
         rt,
-        passes,
-        &|pass: Pass<Diary>| -> Pass<Diary>
-            requires { (pass.turn ≡ turn.now) × (pass.at_turn ≡ false) }
-            ensures { IsAfter count pass result }
-        { write_rows(rt, turn, pass, count) },
+        |scope| -> bool
+            requires { IsFree turn.now first × IsFree turn.now second × IsFree turn.now third × IsFree turn.now fourth }
+        {
+            let one = scope.spawn(
+                move || -> bool
+                    requires { IsFree turn.now first × IsFree turn.now second }
+                { write_in_scope(rt, turn, first, second, count) },
+            );
+            let other = scope.spawn(
+                move || -> bool
+                    requires { IsFree turn.now third × IsFree turn.now fourth }
+                { write_in_scope(rt, turn, third, fourth, count) },
+            );
+            one.is_ok() && other.is_ok()
+        },
     )
 }
 

@@ -31,16 +31,28 @@ fn two_owners(rt: HostRuntime) -> Result<(), Fail> {
 
 #[test]
 fn four_passes_in_four_threads(rt: HostRuntime) -> Result<(), Fail> {
+    let (turn, mut passes) = open(rt.alloc(), 7, 5)?;
+    let mut reader = last_pass(&turn, &mut passes);
+    let fourth = last_pass(&turn, &mut passes);
+    let third = last_pass(&turn, &mut passes);
+    let second = last_pass(&turn, &mut passes);
+    let first = last_pass(&turn, &mut passes);
+    assert!(&rt; write_in_two_scopes(&rt, &turn, (first, second), (third, fourth), 250));
+    let diary = turn.take(&rt, &mut reader);
+    assert!(&rt; diary.title == 7);
+    assert_rows(&rt, &diary, 4, 250);
+    turn.give(&mut reader, diary);
+    Ok(())
+}
+
+#[test]
+fn closing_hands_the_value_out(rt: HostRuntime) -> Result<(), Fail> {
     let (turn, passes) = open(rt.alloc(), 7, 4)?;
-    let passes = write_in_threads(&rt, &turn, passes, 250)?;
     match turn.close(passes) {
-        Ok(diary) => {
-            assert!(&rt; diary.title == 7);
-            assert_rows(&rt, &diary, 4, 250);
-            Ok(())
-        }
+        Ok(diary) => assert!(&rt; diary.title == 7),
         Err(_) => panic!(&rt; "no memory"),
     }
+    Ok(())
 }
 
 #[test]

@@ -5,7 +5,7 @@ use Rattle.com_turn.proofs.turn.Turn.commit.Goals as goal
 pub invariant_of-pass : goal.invariant_of-pass
 invariant_of-pass g c =
     let e = c.commit.ensures.committed in (
-      settled_item g.V.Logged.base c.pass.inside.opening.value c.pass.inside.seat c.commit.new.seat c.args.entry.now e c.pass.invariant.0,
+      settled_item c.pass.inside.seat c.commit.new.seat c.args.entry.now e c.pass.invariant.0,
       c.pass.invariant.1 ∙ sym (ap (λ z. z.0.known.number) e),
       c.pass.invariant.2 ∙ sym (ap (λ z. z.0.active) e),
     )
