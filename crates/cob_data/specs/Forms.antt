@@ -1,0 +1,112 @@
+-- The forms of the divisions before the Procedure Division, as lists of parts.
+use Rattle.std.specs.Prelude.{ℕ, List, [], ◌∷◌, ◌++◌, codes}
+use Rattle.cob_lex.specs.declared.token.TokenKind.TheVariants as tokens
+use Rattle.cob_forms.specs.Sorts.{Sort, reserved, name, any_word, of_kind}
+use Rattle.cob_forms.specs.Forms.{Part, Rows, token, form, maybe, more, with_tail}
+
+pub data Form : Type 0 where
+  environment configuration source_computer object_computer working_storage communication : Form
+  item name_or_filler clauses behind_picture behind_value value : Form
+  cd_entry cd_use direction input_body in_clause symbolic_field message_field output_body out_clause destination_clause : Form
+  word_is word_times : Form
+
+abbrev pub the : List ℕ → Part Form
+the text = token (reserved text)
+
+abbrev pub a_name : Part Form
+a_name = token name
+
+abbrev pub period : Sort
+period = of_kind tokens.Period
+
+-- [IS] name
+abbrev pub is_name : List (Part Form)
+is_name = maybe word_is ∷ a_name ∷ []
+
+-- PIC or PICTURE, with what may follow its picture
+abbrev pub picture_rows : List (Part Form) → Rows Form
+picture_rows parts =
+    (reserved (codes "PIC"), maybe word_is ∷ token (of_kind tokens.Picture) ∷ parts)
+    ∷ (reserved (codes "PICTURE"), maybe word_is ∷ token (of_kind tokens.Picture) ∷ parts) ∷ []
+
+abbrev pub value_rows : List (Part Form) → Rows Form
+value_rows parts = (reserved (codes "VALUE"), maybe word_is ∷ form value ∷ parts) ∷ []
+
+-- the queue names and the source, behind SYMBOLIC or without it
+abbrev pub symbolic_rows : List (Part Form) → Rows Form
+symbolic_rows parts =
+    (reserved (codes "QUEUE"), parts) ∷ (reserved (codes "SUB-QUEUE-1"), parts) ∷ (reserved (codes "SUB-QUEUE-2"), parts)
+    ∷ (reserved (codes "SUB-QUEUE-3"), parts) ∷ (reserved (codes "SOURCE"), parts) ∷ []
+
+-- a clause of an input CD
+abbrev pub in_clause_rows : Rows Form
+in_clause_rows =
+    (reserved (codes "SYMBOLIC"), form symbolic_field ∷ []) ∷ symbolic_rows is_name
+    ++ (reserved (codes "MESSAGE"), form message_field ∷ is_name)
+    ∷ (reserved (codes "TEXT"), the (codes "LENGTH") ∷ is_name) ∷ (reserved (codes "END"), the (codes "KEY") ∷ is_name)
+    ∷ (reserved (codes "STATUS"), the (codes "KEY") ∷ is_name) ∷ (reserved (codes "COUNT"), is_name) ∷ []
+
+-- a clause of an output CD
+abbrev pub out_clause_rows : Rows Form
+out_clause_rows =
+    (reserved (codes "DESTINATION"), form destination_clause ∷ [])
+    ∷ (reserved (codes "SYMBOLIC"), the (codes "DESTINATION") ∷ is_name)
+    ∷ (reserved (codes "TEXT"), the (codes "LENGTH") ∷ is_name)
+    ∷ (reserved (codes "STATUS"), the (codes "KEY") ∷ is_name) ∷ (reserved (codes "ERROR"), the (codes "KEY") ∷ is_name) ∷ []
+
+-- the other ten of the eleven names of an input CD, and then its end
+abbrev pub ten_more : List (Part Form)
+ten_more =
+    form name_or_filler ∷ form name_or_filler ∷ form name_or_filler ∷ form name_or_filler ∷ form name_or_filler
+    ∷ form name_or_filler ∷ form name_or_filler ∷ form name_or_filler ∷ form name_or_filler ∷ form name_or_filler
+    ∷ token period ∷ []
+
+abbrev pub direction_rows : Rows Form
+direction_rows =
+    (reserved (codes "INITIAL"), the (codes "INPUT") ∷ form input_body ∷ [])
+    ∷ (reserved (codes "INPUT"), form input_body ∷ []) ∷ (reserved (codes "OUTPUT"), form output_body ∷ []) ∷ []
+
+-- each form by the sorts with which it begins
+abbrev pub rows_of : Form → Rows Form
+rows_of environment = (reserved (codes "ENVIRONMENT"), the (codes "DIVISION") ∷ token period ∷ maybe configuration ∷ []) ∷ []
+rows_of configuration =
+    (reserved (codes "CONFIGURATION"), the (codes "SECTION") ∷ token period ∷ maybe source_computer ∷ maybe object_computer ∷ []) ∷ []
+rows_of source_computer = (reserved (codes "SOURCE-COMPUTER"), token period ∷ token any_word ∷ token period ∷ []) ∷ []
+rows_of object_computer = (reserved (codes "OBJECT-COMPUTER"), token period ∷ token any_word ∷ token period ∷ []) ∷ []
+rows_of working_storage = (reserved (codes "WORKING-STORAGE"), the (codes "SECTION") ∷ token period ∷ more item ∷ []) ∷ []
+rows_of communication = (reserved (codes "COMMUNICATION"), the (codes "SECTION") ∷ token period ∷ more cd_entry ∷ []) ∷ []
+rows_of item = (of_kind tokens.Number, form name_or_filler ∷ form clauses ∷ []) ∷ []
+rows_of name_or_filler = (name, []) ∷ (reserved (codes "FILLER"), []) ∷ []
+rows_of clauses = (period, []) ∷ picture_rows (form behind_picture ∷ []) ++ value_rows (form behind_value ∷ [])
+rows_of behind_picture = (period, []) ∷ value_rows (token period ∷ [])
+rows_of behind_value = (period, []) ∷ picture_rows (token period ∷ [])
+rows_of value =
+    (of_kind tokens.Literal, []) ∷ (of_kind tokens.Number, []) ∷ (reserved (codes "SPACE"), []) ∷ (reserved (codes "SPACES"), [])
+    ∷ (reserved (codes "ZERO"), []) ∷ (reserved (codes "ZEROS"), []) ∷ (reserved (codes "ZEROES"), []) ∷ []
+rows_of cd_entry = (reserved (codes "CD"), a_name ∷ form cd_use ∷ more item ∷ []) ∷ []
+rows_of cd_use = (reserved (codes "FOR"), form direction ∷ []) ∷ direction_rows
+rows_of direction = direction_rows
+rows_of input_body =
+    (period, []) ∷ (name, ten_more) ∷ (reserved (codes "FILLER"), ten_more)
+    ∷ with_tail (more in_clause ∷ token period ∷ []) in_clause_rows
+rows_of in_clause = in_clause_rows
+rows_of symbolic_field = symbolic_rows is_name
+rows_of message_field = (reserved (codes "DATE"), []) ∷ (reserved (codes "TIME"), []) ∷ (reserved (codes "COUNT"), []) ∷ []
+rows_of output_body = (period, []) ∷ with_tail (more out_clause ∷ token period ∷ []) out_clause_rows
+rows_of out_clause = out_clause_rows
+rows_of destination_clause =
+    (reserved (codes "COUNT"), is_name)
+    ∷ (reserved (codes "TABLE"), the (codes "OCCURS") ∷ token (of_kind tokens.Number) ∷ maybe word_times ∷ [])
+    ∷ (reserved (codes "IS"), a_name ∷ []) ∷ (name, []) ∷ []
+rows_of word_is = (reserved (codes "IS"), []) ∷ []
+rows_of word_times = (reserved (codes "TIMES"), []) ∷ []
+
+-- the divisions from the first token to the word PROCEDURE
+abbrev pub data_division : List (Part Form)
+data_division =
+    the (codes "IDENTIFICATION") ∷ the (codes "DIVISION") ∷ token period
+    ∷ the (codes "PROGRAM-ID") ∷ token period ∷ token any_word ∷ token period
+    ∷ maybe environment
+    ∷ the (codes "DATA") ∷ the (codes "DIVISION") ∷ token period
+    ∷ maybe working_storage ∷ maybe communication
+    ∷ the (codes "PROCEDURE") ∷ []

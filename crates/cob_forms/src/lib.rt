@@ -1,0 +1,18 @@
+//! What the readers of a program's divisions share: sorts of tokens, forms as lists of parts, where
+//! reading by them stops, the first of several faults, and words, numbers and literals with where they
+//! stand.
+//!
+//! A form is given by the sorts of token with which it may begin, each with the parts behind it.
+//! `next` takes one token from the parts that are left, and `reading` goes over the tokens once, from left
+//! to right: another token is wanted at the first one that is of none of the sorts that may come next. So
+//! of the form `GO [TO] p` with the tokens of `GO TO STOP`, the third is where a name is wanted.
+//!
+//! These are definitions in `specs`, on which no code stands yet. That the first of several faults does
+//! not depend on how they are grouped is a law, `first_of_both`.
+#![tactic(auto)]
+
+mod laws;
+mod written;
+
+pub use laws::first_of_both;
+pub use written::{Literal, Name, Number, Position};

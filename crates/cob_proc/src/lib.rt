@@ -1,0 +1,12 @@
+//! The Procedure Division of a program: what it is made of, and its forms.
+//!
+//! `specs/Forms.antt` has the forms of the statements and conditions as lists of parts, by which `reading`
+//! of cob_forms says where another word or sign is wanted. No code reads a division yet.
+#![tactic(auto)]
+
+mod tree;
+
+pub use tree::{
+    Addend, Advancing, Condition, Ending, Identifier, Indicator, Joint, Key, Lines, Operand,
+    Paragraph, Procedure, Relation, Repetition, Simple, Statement, Subscript,
+};
