@@ -3,8 +3,6 @@
 #![tactic(auto)]
 
 #[cfg(test)]
-mod folders;
-#[cfg(test)]
 mod lists;
 #[cfg(test)]
 mod nets;
