@@ -34,3 +34,5 @@ mod Idling
 mod Owned
 mod Telling
 mod Settled
+mod Consistency
+mod Flags

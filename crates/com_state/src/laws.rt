@@ -18,6 +18,7 @@ ghost use Rattle.std.specs.Prelude.{
   is_some,
   IsTrue,
 };
+ghost use Rattle.std.specs.List.{All};
 ghost use Rattle.com_msg.specs.declared.rest.Kind.{Kind as KindOf};
 ghost use Rattle.com_events.specs.declared.call.Party.{Party as PartyOf};
 ghost use Rattle.com_events.specs.declared.call.Party.TheVariants as party;
@@ -35,6 +36,7 @@ ghost use Rattle.com_state.specs.declared.parties.TerminalMode.TheVariants.{Ende
 ghost use Rattle.com_state.specs.State.{State as SystemState, opening, unit_mode, terminal_mode};
 ghost use Rattle.com_net.specs.declared.net.Net.{Net as NetOf};
 ghost use Rattle.com_events.specs.declared.entry.Entry.{Entry as EntryOf};
+ghost use Rattle.com_net.specs.Network.{IsNet};
 ghost use Rattle.com_net.specs.Numbers.{unit_number, terminal_number};
 ghost use Rattle.com_state.specs.Histories.{LeadsTo, Legal, IsRun, run, call_made, state_after};
 ghost use Rattle.com_state.specs.Parties.{
@@ -44,7 +46,7 @@ ghost use Rattle.com_state.specs.Parties.{
   may_by_unit,
   may_by_terminal,
 };
-ghost use Rattle.com_state.specs.Reached.{IsToldBy};
+ghost use Rattle.com_state.specs.Reached.{IsConsistent, IsToldBy};
 ghost use Rattle.com_state.specs.Steps.{step, is_idle};
 ghost use Rattle.com_state.specs.Wholeness.{EveryHistoryIsWhole};
 ghost use Rattle.com_state.specs.Laws.{Keeps, rests_of, is_refusal, is_idle_call, Tells, ChangesStatusAlone};
@@ -165,6 +167,15 @@ pub fn no_call_is_left_at_the_end()
     ensures ended { (S : SystemState) (name : List ℕ) (terminal : ℕ) (call : CallOf) →
         terminal_number S.net name ≡ Some terminal → terminal_mode S terminal ≡ Some Ended →
         step S (party.Terminal name) call ≡ None }
+{}
+
+/// What a legal history of well-formed calls leaves is consistent: its lists have the lengths that the
+/// network says, no count is beyond its limit, no rest is spent, no unit holds two rests from one
+/// leaf, and what waits stands in the order of arrival.
+pub fn every_state_reached_is_consistent()
+    ensures { (net : NetOf) (history : List EntryOf) (last : SystemState) → IsNet net →
+        All (λ entry. IsWellFormed entry.call) history → LeadsTo (opening net) history last →
+        IsConsistent last }
 {}
 
 /// The entries of a party alone tell its mode and its count.

@@ -17,7 +17,8 @@
 //!   the system's.
 //! - [`every_history_is_whole`]: every legal history hands each message out whole, to one unit, and in
 //!   the order of arrival on each leaf.
-//! - [`entries_tell_of_their_party`]: a party's own entries tell its mode and its count.
+//! - [`every_state_reached_is_consistent`] and [`entries_tell_of_their_party`] say what is known of a
+//!   state that a legal history leaves.
 //!
 //! The functions here do nothing; their contracts are the laws.
 #![tactic(auto)]
@@ -29,7 +30,8 @@ pub use laws::{
     a_front_is_legal, a_legal_history_leaves_one_state, a_portion_is_no_longer_than_asked,
     a_refusal_changes_the_status_alone, a_run_is_legal, a_step_is_determined,
     a_step_is_one_entry_more, an_idle_system_only_stops_and_ends, entries_tell_of_their_party,
-    entries_tell_what_their_party_may_do, every_history_is_whole, no_call_is_left_at_the_end,
+    entries_tell_what_their_party_may_do, every_history_is_whole,
+    every_state_reached_is_consistent, no_call_is_left_at_the_end,
     nothing_is_left_of_a_stopped_unit, others_are_left_by_a_stop, others_keep_their_rests,
     shown_is_legal, step_keeps,
 };
