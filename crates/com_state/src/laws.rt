@@ -105,13 +105,14 @@ pub fn others_are_left_by_a_stop()
         begun_for next.outgoing other terminal ≡ begun_for S.outgoing other terminal) }
 {}
 
-/// Every legal history hands messages out whole, each to one unit, and in the order of arrival on
-/// each leaf.
+/// In every legal history a message goes to one unit, from its front and with nothing left out; what
+/// is missing at the end that unit still holds, or it has stopped. On each leaf messages are taken up
+/// in the order of arrival.
 pub fn every_history_is_whole()
     ensures { EveryHistoryIsWhole }
 {}
 
-/// A history is legal just where its calls get its replies.
+/// A history is legal exactly where its calls get its replies.
 pub fn shown_is_legal()
     ensures legal { (net : NetOf) (history : List EntryOf) → IsRun net history → Legal net history }
     ensures shown { (net : NetOf) (history : List EntryOf) → Legal net history → IsRun net history }
@@ -137,7 +138,7 @@ pub fn a_step_is_one_entry_more()
         LeadsTo first (history ++ entry ∷ []) next }
 {}
 
-/// A legal history leaves the state that After tells of it, and no other.
+/// A legal history leaves the state that `state_after` tells, and no other.
 pub fn a_legal_history_leaves_one_state()
     ensures left { (net : NetOf) (history : List EntryOf) (last : SystemState) →
         LeadsTo (opening net) history last → state_after net history ≡ Some last }

@@ -7,16 +7,20 @@
 //! ghost use Rattle.com_state.specs.Histories.{Legal};
 //! ghost use Rattle.com_state.specs.Steps.{step};
 //!
-//! pub fn replay(net: &Net, calls: &[Call]) -> Vec<Entry>
-//!     ensures { Legal net.now result }
+//! pub fn replay(net: &Net, calls: &[(Party, Call)]) -> Vec<Entry>
+//!     ensures { Legal net.now result.items }
+//! {
+//!     // ..
+//! }
 //! ```
 //!
 //! - `step` is what a call is answered and the state that it leaves, `opening` the state of a network
 //!   in which nothing has happened, and `Legal` tells which histories are the system's.
 //! - What comes in is com_recv's `Incoming`, what goes out com_send's `Outgoing`: their definitions are
 //!   the system's.
-//! - [`every_history_is_whole`]: every legal history hands each message out whole, to one unit, and in
-//!   the order of arrival on each leaf.
+//! - [`every_history_is_whole`]: in every legal history a message goes to one unit, from its front and
+//!   with nothing left out; what is missing at the end that unit still holds, or it has stopped; and
+//!   the messages of a leaf are taken up in the order of arrival.
 //! - [`every_state_reached_is_consistent`] and [`entries_tell_of_their_party`] say what is known of a
 //!   state that a legal history leaves.
 //!

@@ -42,8 +42,8 @@ pub record IsNetRead (net_file : List ℕ) (before read : Shown) (net : Net) : T
   pub short : length description ≤ file_limit
   pub described : Describes description net
 
--- SCRIPT was read, and this legal history makes just its calls. It hands messages out whole and in
--- order.
+-- SCRIPT was read, and this legal history makes just its calls. Each message goes to one unit with
+-- nothing left out, and messages are taken up in order.
 pub record IsScriptDone (script_file : List ℕ) (net : Net) (before read : Shown)
     (history : List Entry) : Type 0 where
   pub script : List ℕ

@@ -28,8 +28,8 @@ const SCRIPT_REFUSED: u8 = 8;
 ///
 /// - 0: the script's calls were done, and the journal, the transcript and the summary were written.
 /// - 1: memory ran out.
-/// - 2: the words are not `replay NET SCRIPT`. A file word is not empty and does not begin with
-///   `-`.
+/// - 2: the words are not `replay NET SCRIPT`, where NET and SCRIPT are not empty and do not begin
+///   with `-`.
 /// - 3: the description NET is refused.
 /// - 5: a file could not be read.
 /// - 7: a write of the outputs failed.
@@ -37,8 +37,8 @@ const SCRIPT_REFUSED: u8 = 8;
 ///   allowed.
 ///
 /// With 2, 3, 5 and 8 one line is written to standard output, in one write, and nothing else; a
-/// failure of that write leaves the status. Every opened file is closed, and no other is opened than
-/// the two, in their order.
+/// failure of that write leaves the status. Only NET and then SCRIPT are opened, and each is closed
+/// again.
 pub fn tool<S: Store>(alloc: Global, words: &[String], store: &mut S) -> u8
     ensures { IsOutcome (map string_bytes words.now) result (S.shows store.old) (S.shows store.new) }
 {

@@ -18,7 +18,8 @@
 //!
 //! The contract, `IsOutcome` of `specs/Replay.antt`, says for each status what brought it about, what was
 //! written, and every call that was made on the store. With status 0 the history that was written is a
-//! legal run of the script's calls, in which messages are handed out whole and in order.
+//! legal run of the script's calls, in which each message goes to one unit with nothing left out, and
+//! messages are taken up in order.
 #![tactic(auto)]
 
 mod areas;

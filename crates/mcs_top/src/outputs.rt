@@ -34,6 +34,7 @@ pub struct Texts {
 }
 
 impl Texts {
+    /// What is written of a history. Without memory nothing is made.
     pub fn new(alloc: Global, net: &Net, history: &[Entry]) -> Result<Texts, AllocError>
         requires texts { HaveTexts history.now }
         requires silent { IsSilent net.now history.now }
@@ -52,8 +53,6 @@ impl Texts {
             (contents_after (writes_of self.now)) (S.shows store.old).contents) }
         ensures err { IfErr result (λ fault. StopsAtWrite fault (writes_of self.now)
             (S.shows store.old).contents (S.shows store.new).contents) }
-
-        // the counts
 
         // the counts
         ensures cause { HasCause (S.shows store.old).write_faults (S.shows store.new).write_faults
