@@ -1,7 +1,7 @@
 pub mod Programs
 mod Written
-mod Rows
-mod ProgramRows
+mod WorkedSources
+mod WorkedPrograms
 pub mod Runs
 pub mod FirstLines
 pub mod LiteralSizes

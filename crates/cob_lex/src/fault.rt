@@ -2,7 +2,9 @@
 use std::alloc::{AllocError, AllocFailed};
 use thiserror::Error;
 
-/// The kinds of fault of a source. Of two kinds at one place the first in this order is told.
+/// The kinds of fault of a source, in the order in which they are told where two stand at one place.
+/// `lex` answers `BadCharacter`, `BadColumn` and `BadWord`; the others are for the readers of
+/// divisions.
 #[derive(Clone, Copy, Debug, PartialEq, Eq)]
 pub enum SourceKind {
     /// A character that may not stand there, or a literal without its closing quotation mark.

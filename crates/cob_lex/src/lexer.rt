@@ -13,10 +13,11 @@ use crate::{SourceError, SourceFault, SourceKind, Token, TokenKind};
 use com_text::{Rows, Text, TextError};
 use std::alloc::Global;
 
-/// The bytes that a source may have.
+/// How many bytes a source has at most.
 pub const MAX_SOURCE: usize = 1_048_576;
 
-/// The tokens of a source, or its first fault. Memory where memory ran out.
+/// The tokens of a source of at most [`MAX_SOURCE`] bytes, or its first fault. Memory where memory
+/// ran out.
 pub fn lex(alloc: Global, bytes: &[u8]) -> Result<Rows<Token>, SourceError>
     requires { length bytes.now ≤ MAX_SOURCE }
     ensures tokens { IfOk result (λ tokens. tokens_of bytes.now ≡ Ok tokens) }

@@ -17,11 +17,11 @@ pub(crate) struct Place {
 /// What is done with a line.
 #[derive(Clone, Copy, Debug)]
 pub(crate) enum LineKind {
-    /// It is blank or a comment.
+    /// It has fewer than seven columns, or is a comment.
     Comment,
     /// It is a comment, and begins a comment paragraph.
     CommentParagraph,
-    /// Its column 7 holds no indicator.
+    /// Its column 7 holds something other than a space, `*` and `/`.
     BadColumn,
     /// Its columns 8 to 72 are read.
     Text,

@@ -10,7 +10,7 @@ mod ReplyLaws
 mod LineLaws
 mod Plain
 mod JournalLaws
-mod Rows
+mod WorkedLines
 mod FirstLines
 mod Exact
 mod ScriptLaws

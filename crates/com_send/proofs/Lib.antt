@@ -1,5 +1,5 @@
-mod SendRows
-mod SwitchRows
+mod WorkedSends
+mod WorkedSwitches
 pub mod Finding
 pub mod Changing
 pub mod Serving

@@ -8,12 +8,12 @@
 //! outs.send(0, &mut area, Part::Emi(Advance::After(1)), Some(&text))?;
 //! outs.switch(true, &mut area, &key)?;
 //! for message in outs.transmitted(0) {
-//!     render(message, &mut bytes)?;
+//!     render(message, &mut bytes)?; // of com_lines
 //! }
 //! ```
 //!
-//! - [`Outs::send`] does exactly what SEND does, and the area tells it: each known destination is served
-//!   once, an unknown one stops no other, and with status key 30, 50 or 60 nothing else changes.
+//! - [`Outs::send`] does exactly what SEND does, and writes the outcome into the area: each known
+//!   destination is served once, an unknown one stops no other, and with status key 30, 50 or 60 nothing else changes.
 //! - [`Outs::switch`] does exactly what ENABLE and DISABLE OUTPUT do: an enabled destination is sent what
 //!   is queued for it, in order.
 //! - [`Outs::transmitted`] is what was transmitted to a destination, in order, and can be rendered.

@@ -1,4 +1,4 @@
-//! Where units send to: SEND, ENABLE OUTPUT and DISABLE OUTPUT.
+//! The destinations that units send to: SEND, ENABLE OUTPUT and DISABLE OUTPUT.
 ghost use Rattle.std.specs.Prelude.{◌≡◌, ◌<◌, length, Some, IfSome, IfOk, OnOk, OnErr, All};
 ghost use Rattle.std.specs.List.{list_all};
 ghost use Rattle.std.specs.Option.{option_copied};
@@ -143,7 +143,7 @@ impl Outs {
         Ok(())
     }
 
-    /// What a unit has begun to send is gone.
+    /// Drops what a unit has begun to send.
     pub fn drop_unit(&mut self, unit: u32)
         requires { unit < self.old.units }
         ensures { self.new ≡ record self.old { outgoing = drop_unit unit self.old.outgoing } }

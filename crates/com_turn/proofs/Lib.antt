@@ -13,4 +13,4 @@ mod Closing
 mod Beginning
 mod Settling
 mod Collecting
-mod Rows
+mod WorkedLists

@@ -7,7 +7,7 @@ use crate::board::SeatOf;
 use crate::logged::Logged;
 use std::marker::Model;
 
-/// What one party has of a turn. Contracts see its number, the number of parties, the base and the log at the opening,
+/// A party's right to take the turn, and what it has seen. Contracts see its number, the number of parties, the base and the log at the opening,
 /// the log as far as it has seen it, who became active or inactive until then, whether it is at its turn, whether it is
 /// active, how often it took the turn, and what `Turn::active` answered last in its last turn.
 #[derive(Drop)]
@@ -51,6 +51,7 @@ impl<V: Logged> Pass<V> {
         self.number
     }
 
+    /// Whether the party is active.
     pub fn is_active(&self) -> bool
         ensures { result ≡ self.now.active }
     {

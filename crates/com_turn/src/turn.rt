@@ -21,7 +21,7 @@ use std::sync::atomic::{AtomicU64, Ordering};
 #[derive(Drop)]
 pub struct Turn<V: Logged> {
     board: Board<V>,
-    // changes whenever a turn ends
+    /// Changes whenever a turn ends.
     bell: AtomicU64,
 }
 
@@ -33,7 +33,7 @@ impl<V: Logged> Model for Turn<V> {
     ghost view = { λ t. t.board };
 }
 
-/// There was no memory, and all is as before.
+/// The turn and its passes as they were, where a turn is not closed.
 #[derive(Drop)]
 pub struct CloseRefused<V: Logged> {
     pub turn: Turn<V>,
@@ -79,7 +79,7 @@ impl<V: Logged> Turn<V> {
         // the pass is at its turn, and has seen the log and all toggles
         ensures pass { pass.new ≡ record pass.old { seen = V.log result; toggles = pass.new.toggles; at_turn = true; turns = pass.old.turns + 1; found = None } }
         ensures base { pass.old.base ≡ Some (V.base result) }
-        // both begin with what it had seen, and nothing of its own is new
+        // the log and the toggles begin with what the pass had seen, and none of the new entries is its own
         ensures seen { IsPrefixOf pass.old.seen (V.log result) }
         ensures mine { mine V.owner pass.new ≡ mine V.owner pass.old }
         ensures toggles { HasToggles pass.new.toggles pass.old }
@@ -90,7 +90,7 @@ impl<V: Logged> Turn<V> {
         self.wait(rt, &mut pass.seat, ticket)
     }
 
-    // Looks until the ticket is served, and sleeps after each look that found it is not.
+    /// Looks until the ticket is served, and sleeps after each look that found it is not.
     fn wait<R: Wait>(&self, rt: &R, seat: &mut SeatOf<V>, ticket: u64) -> V
         requires own { seat.old.table_id ≡ self.now }
         requires waiting { (n : ℕ) × (seat.old.me.0.stage ≡ Waiting n) × (ticket ≡ n % 2 ^ 64) × (seat.old.me.0.spent ≡ false) }

@@ -10,10 +10,10 @@ mod portions;
 #[cfg(test)]
 mod reports;
 #[cfg(test)]
-mod rows;
-#[cfg(test)]
 mod runs;
 #[cfg(test)]
 mod sizes;
+#[cfg(test)]
+mod whole;
 #[cfg(test)]
 mod writes;

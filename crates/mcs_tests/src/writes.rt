@@ -1,6 +1,6 @@
 //! Writes that fail: what was written before, and how much of the one that failed.
-use crate::rows::{ONE_MESSAGE_JOURNAL, ONE_MESSAGE_SUMMARY};
 use crate::runs::{NET, ONE_MESSAGE, command, replay, store_of};
+use crate::whole::{ONE_MESSAGE_JOURNAL, ONE_MESSAGE_SUMMARY};
 use std::test::Fail;
 
 #[test]

@@ -1,4 +1,4 @@
--- Worked sources: a row is what a source has, worked out by hand.
+-- Worked sources: what each has, worked out by hand.
 use Rattle.std.proofs.Common.{◌≡◌, ℕ, List, [], ◌∷◌, ◌++◌, Ok, Err, refl, codes}
 use Rattle.cob_lex.specs.declared.fault.SourceKind.TheVariants as faults
 use Rattle.cob_lex.specs.Fronts.{front_of}

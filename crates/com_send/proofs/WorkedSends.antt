@@ -1,4 +1,4 @@
--- Worked rows of SEND, computed by its definition.
+-- Worked SENDs, computed by the definition.
 use Rattle.std.specs.Prelude.{◌≡◌, ℕ, true, false, List, [], ◌∷◌, ◌++◌, Some, None, codes, refl}
 use Rattle.std.specs.List.{flat_map}
 use Rattle.com_msg.specs.Rendering.{rendered_message}

@@ -1,9 +1,9 @@
--- Worked rows of ENABLE OUTPUT and DISABLE OUTPUT, computed by their definition.
+-- Worked ENABLE OUTPUT and DISABLE OUTPUT, computed by the definition.
 use Rattle.std.specs.Prelude.{◌≡◌, true, false, List, [], ◌∷◌, codes, refl}
 use Rattle.com_msg.specs.declared.sending.OutMessage.{OutMessage}
 use Rattle.com_send.specs.Outgoing.{opening}
 use Rattle.com_send.specs.Switching.{switch_output}
-use Rattle.com_send.proofs.SendRows.{t1, both, one_line, enabled_with, disabled_with, sends_line}
+use Rattle.com_send.proofs.WorkedSends.{t1, both, one_line, enabled_with, disabled_with, sends_line}
 
 -- a key that is not the password
 wrong_key : switch_output (t1 ∷ []) (opening (t1 ∷ []) 1) true (codes "00010000000T1          ")

@@ -1,4 +1,4 @@
--- Worked rows of the definitions.
+-- Worked lists of toggles and of entries, computed by the definitions.
 use Rattle.std.proofs.Common.{◌≡◌, ℕ, true, false, List, [], ◌∷◌, refl}
 use Rattle.com_turn.specs.declared.view.Toggle.{Toggle}
 use Rattle.com_turn.specs.Histories.{items_of, longer}
