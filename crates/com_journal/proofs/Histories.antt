@@ -1,5 +1,5 @@
 -- Writing and reading the lines of journals and scripts one after another.
-use Rattle.std.proofs.Common.{◌≡◌, ℕ, ◌+◌, ◌≤◌, ◌<◌, Bool, true, false, List, [], ◌∷◌, ◌++◌, length, get_or, take, refl, sym, ap, ◌∙◌, subst, arith, append_assoc}
+use Rattle.std.proofs.Common.{◌≡◌, ℕ, ◌+◌, ◌<◌, Bool, true, false, List, [], ◌∷◌, ◌++◌, length, get_or, take, refl, sym, ap, ◌∙◌, arith, append_assoc}
 use Rattle.std.specs.Prelude.{codes, All}
 use Rattle.std.specs.List.{flat_map}
 use Rattle.std.proofs.lemmas.List.{append-nil, flat_map_more, take_more, length_push}
@@ -8,16 +8,15 @@ use Rattle.com_events.specs.declared.call.Party.{Party}
 use Rattle.com_events.specs.declared.call.Call.{Call}
 use Rattle.com_events.specs.declared.entry.Entry.{Entry}
 use Rattle.com_events.specs.Calls.{HasText}
-use Rattle.com_journal.specs.declared.fault.JournalKind.{JournalKind}
-use Rattle.com_journal.specs.declared.fault.JournalKind.TheVariants.{BadHeader, BadLine, NoLineEnd}
+use Rattle.com_journal.specs.declared.fault.JournalKind.TheVariants.{BadHeader}
 use Rattle.com_journal.specs.declared.fault.JournalError.{JournalError}
 use Rattle.com_journal.specs.declared.fault.JournalError.TheVariants as error
 use Rattle.com_journal.specs.Lines.{IsCallText, IsLine}
 use Rattle.com_journal.specs.Journals.{journal_header, ended, AreLines, IsJournal}
-use Rattle.com_journal.specs.Scripts.{lines_of, script_header, AreCalls, IsScript}
+use Rattle.com_journal.specs.Scripts.{lines_of, script_header, AreCalls}
 use Rattle.com_journal.specs.Writing.{with_entry}
-use Rattle.com_journal.specs.Faults.{IsFirstLine, IsRefusedLine, IsJournalFault, IsScriptFault, Tells}
-use Rattle.com_journal.specs.Loops.{HasRead, IsRefusedAt, IsNoEntryFor, IsNoEntry, IsRefusedBehind, IsNoCall, IsBadScriptHeader, HasReadCalls, IsBadCallBehind}
+use Rattle.com_journal.specs.Faults.{IsFirstLine, IsJournalFault, Tells}
+use Rattle.com_journal.specs.Loops.{HasRead, IsRefusedAt, IsRefusedBehind, IsNoCall, IsBadScriptHeader, HasReadCalls, IsBadCallBehind}
 use Rattle.com_journal.proofs.LineLaws.{line_spelled, spelled-line, with_entry-line}
 use Rattle.com_journal.proofs.JournalLaws.{ended-append, lines-append}
 use Rattle.com_journal.proofs.FirstLines.{one_first_line, lines-first}

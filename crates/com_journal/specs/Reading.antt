@@ -6,6 +6,7 @@ use Rattle.com_text.specs.Text.{is_text}
 use Rattle.com_text.specs.Name.{is_name}
 use Rattle.com_text.specs.Digits.{number}
 use Rattle.com_text.specs.Counted.{counted_field, is_colon}
+use Rattle.com_text.specs.declared.counted.TheConstants.{MAX_COUNTED}
 use Rattle.com_msg.specs.Stamp.{Moment, moment, is_moment}
 use Rattle.com_msg.specs.declared.sending.Advance.{Advance}
 use Rattle.com_msg.specs.declared.sending.Advance.TheVariants.{Before, After, BeforePage, AfterPage}
@@ -75,7 +76,7 @@ unfoldable pub split_counted : List ℕ → Option (List ℕ × List ℕ)
 split_counted bytes =
     let count = number (take (position_or_len is_colon bytes) bytes) in
     let content = take count (after_first is_colon bytes) in
-    if nat_le (length content) 999999
+    if nat_le (length content) MAX_COUNTED
     then option_map (λ rest. (content, rest)) (behind (counted_field content) bytes) else None
 
 -- a counted field

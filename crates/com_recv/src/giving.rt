@@ -11,7 +11,7 @@ ghost use Rattle.com_recv.specs.Giving.{IsOnTree, Gives};
 use crate::areas::given_area;
 use crate::lists::{Held, Waiting, hold};
 use com_cd::InArea;
-use com_msg::{Kind, Portion, Rest};
+use com_msg::{Kind, MAX_SIZE, Portion, Rest};
 use com_text::Text;
 use com_tree::{Leaf, Tree};
 use std::alloc::AllocError;
@@ -38,7 +38,7 @@ pub fn give_held(
         → h.unit ≡ request.unit }
     requires leaf { (h : HeldRow) → slice_get held.old.items at ≡ Some h
         → IsOnTree tree.now h.leaf.number h.rest }
-    requires size { (1 ≤ request.size) × (request.size ≤ 2000) }
+    requires size { (1 ≤ request.size) × (request.size ≤ MAX_SIZE) }
     ensures given { (h : HeldRow) → slice_get held.old.items at ≡ Some h → IfOk result
         (Gives tree.now request h.leaf.number h.rest held.old.items area.old area.new
         held.new.items) }
@@ -63,7 +63,7 @@ pub fn give_waiting(
     requires at { at < length waiting.old.items }
     requires leaf { (w : WaitingRow) → slice_get waiting.old.items at ≡ Some w
         → IsOnTree tree.now w.leaf.number w.message }
-    requires size { (1 ≤ request.size) × (request.size ≤ 2000) }
+    requires size { (1 ≤ request.size) × (request.size ≤ MAX_SIZE) }
     ensures given { (w : WaitingRow) → slice_get waiting.old.items at ≡ Some w → IfOk result
         (Gives tree.now request w.leaf.number w.message held.old.items area.old area.new
         held.new.items) }

@@ -10,7 +10,7 @@ use crate::areas::{counted_area, no_data_area, refused_area};
 use crate::giving::{Request, give_held, give_waiting};
 use crate::lists::{Held, Waiting, count_between, drop_unit, first_on, heads_of, held_between};
 use com_cd::{Designation, InArea};
-use com_msg::{Kind, Message, Rest};
+use com_msg::{Kind, MAX_SIZE, Message, Rest};
 use com_text::Text;
 use com_tree::{Leaf, Node, Tree};
 use std::alloc::{AllocError, Global};
@@ -107,7 +107,7 @@ impl Queues {
         size: u32,
     ) -> Result<Taken, AllocError>
         requires tree { IsTreeOf tree.now self.old }
-        requires size { (1 ≤ size) × (size ≤ 2000) }
+        requires size { (1 ≤ size) × (size ≤ MAX_SIZE) }
         ensures received { IfOk result (λ taken. (taken, area.new, self.new)
             ≡ receive tree.now self.old unit area.old kind size) }
         ensures tree { IsTreeOf tree.now self.new }
