@@ -35,7 +35,7 @@ pub(crate) enum Front {
 /// What stands at the front of the rest of a line.
 #[tactic(auto, unfolding(crate::specs::Fronts::front_of))]
 pub(crate) fn front_of(awaited: Awaited, bytes: &[u8]) -> Front
-    requires some { 1 ≤ length bytes.now }
+    requires not_empty { 1 ≤ length bytes.now }
     requires in_line { length bytes.now ≤ 72 }
     ensures front { result ≡ front_of awaited bytes.now }
     ensures fits { FitsIn result (length bytes.now) }
@@ -90,7 +90,7 @@ fn picture_run(bytes: &[u8]) -> &[u8]
 
 /// What stands at the front of the rest of a line, where it is no picture.
 fn plain_front(bytes: &[u8]) -> Front
-    requires some { 1 ≤ length bytes.now }
+    requires not_empty { 1 ≤ length bytes.now }
     requires in_line { length bytes.now ≤ 72 }
     ensures front { result ≡ plain_front bytes.now }
     ensures fits { FitsIn result (length bytes.now) }

@@ -95,7 +95,7 @@ fn take_front(
     at: usize,
     rest: &[u8],
 ) -> Result<(Awaited, usize), SourceError>
-    requires some { 1 ≤ length rest.now }
+    requires not_empty { 1 ≤ length rest.now }
     requires in_line { at + length rest.now ≤ 72 }
     requires in_source { place.start ≤ MAX_SOURCE }
     ensures taken { IfOk result (λ step. with_front tokens.old.items (text_tokens awaited 0 place at rest.now)

@@ -40,7 +40,7 @@ const AREA_A: usize = 4;
 pub(crate) fn first_line(bytes: &[u8]) -> (&[u8], usize)
     requires { 1 ≤ length bytes.now }
     ensures first { IsFirstLine bytes.now result.0.now result.1 }
-    ensures some { 1 ≤ result.1 }
+    ensures not_empty { 1 ≤ result.1 }
     ensures within { result.1 ≤ length bytes.now }
     ensures line { length result.0.now ≤ result.1 }
 {

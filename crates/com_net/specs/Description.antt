@@ -115,7 +115,7 @@ document_of bytes = if is_utf8 bytes then parse_document bytes else None
 abbrev pub is_too_long : List ℕ → Bool
 is_too_long bytes = nat_lt MAX_DESCRIPTION (length bytes)
 
--- NetFaultOf: the first fault of a description, and its path
+-- the first fault of a description, and its path
 abbrev pub net_fault_of : List ℕ → Option (NetKind × List ℕ)
 net_fault_of bytes =
     if is_too_long bytes then Some (kind.OverLimit, codes "file")
@@ -124,7 +124,7 @@ net_fault_of bytes =
       | Some document ↦ document_fault document
     ]
 
--- NetOf: the network of a description that has no fault
+-- the network of a description that has no fault
 abbrev pub net_of : List ℕ → Option Parts
 net_of bytes =
     if is_none (net_fault_of bytes) then option_map parts_of (document_of bytes) else None

@@ -22,7 +22,7 @@ pub record Incoming : Type 0 where
 abbrev pub nothing : Incoming
 nothing = record { waiting = []; held = [] }
 
--- Designated: the node whose path the four name fields of the area hold
+-- the node whose path the four name fields of the area hold
 abbrev pub designated : List TreeRow → List ℕ → Option Node
 designated tree area =
     option_map (λ place. record { row = place })

@@ -9,7 +9,7 @@ use Rattle.com_recv.specs.Receiving.{Received, next_rest}
 use Rattle.com_send.specs.Sending.{Answer}
 use Rattle.com_state.specs.State.{State}
 
--- Ready: the RECEIVE has something to go on with
+-- the RECEIVE has something to go on with
 abbrev pub is_ready : State → ℕ → List ℕ → Bool
 is_ready S unit area =
     is_some (option_and_then (next_rest S.net.tree S.incoming unit) (designated S.net.tree area))

@@ -15,7 +15,7 @@ LeadsTo S (entry ∷ entries) last =
     (next : State) × (step S entry.party entry.call ≡ Some (entry.reply, next))
     × LeadsTo next entries last
 
--- Legal: a history of the system from its opening on
+-- a history of the system from its opening on
 abbrev pub Legal : Net → List Entry → Type 0
 Legal net history = (last : State) × LeadsTo (opening net) history last
 
@@ -32,7 +32,7 @@ run_from S (made ∷ calls) =
     option_and_then (λ next. option_map (entry_before made next.0) (run_from next.1 calls))
     (step S made.0 made.1)
 
--- Run: the legal history with just these calls
+-- the legal history with just these calls
 abbrev pub run : Net → List (Party × Call) → Option (List Entry × State)
 run net calls = run_from (opening net) calls
 
@@ -40,7 +40,7 @@ run net calls = run_from (opening net) calls
 abbrev pub call_made : Entry → Party × Call
 call_made entry = (entry.party, entry.call)
 
--- After: the state that a history leaves, where its calls can be done
+-- the state that a history leaves, where its calls can be done
 abbrev pub state_after : Net → List Entry → Option State
 state_after net history = option_map (λ r. r.1) (run net (map call_made history))
 

@@ -120,7 +120,7 @@ feed_of net terminal = option_and_then (λ t. t.feed) (slice_get net.terminals t
 abbrev pub is_on : List Bool → ℕ → Bool
 is_on flags at = unwrap_or (slice_get flags at) false
 
--- PathOpen: the terminal has a route, and its input and the route's leaf are enabled
+-- the terminal has a route, and its input and the route's leaf are enabled
 abbrev pub is_path_open : State → ℕ → Bool
 is_path_open S terminal = elim (feed_of S.net terminal) [
   | None ↦ false
@@ -186,7 +186,7 @@ is_terminal_idle S terminal (Some Holding) = not (is_path_open S terminal)
 is_terminal_idle S terminal (Some Feeding) = false
 is_terminal_idle S terminal None = true
 
--- Idle: nothing can happen any more
+-- nothing can happen any more
 abbrev pub is_idle : State → Bool
 is_idle S =
     list_all (λ unit. is_unit_idle S unit (unit_mode S unit)) (range_with_len 0 (length S.units))
@@ -294,7 +294,7 @@ terminal_step S terminal name (SwitchInput on is_terminal area key) = None
 terminal_step S terminal name (SwitchOutput on area key) = None
 terminal_step S terminal name (Stop reason) = None
 
--- Step: what a call is answered and the state after it; undefined where there is no case, and for a
+-- what a call is answered and the state after it; undefined where there is no case, and for a
 -- party that the network has not
 unfoldable pub step : State → Party → Call → Option (Reply × State)
 step S (party.Unit name) call =

@@ -76,7 +76,7 @@ choice (suc levels) rows first node =
 abbrev pub head_on : List (Option ℕ) → ℕ → Option ℕ
 head_on heads leaf = unwrap_or (slice_get heads leaf) None
 
--- NextLeaf: the leaf that the node chooses, where `first` gives the arrival number of the first
+-- the leaf that the node chooses, where `first` gives the arrival number of the first
 -- message that waits on a leaf; a tree has no more levels
 abbrev pub next_leaf : List TreeRow → Node → (ℕ → Option ℕ) → Option Leaf
 next_leaf rows node first = option_map (λ number. record { number = number }) (choice MAX_DEPTH rows first node)

@@ -187,7 +187,7 @@ fn head_on(heads: &[Option<u64>], leaf: u32) -> u64
 
 /// The path of one to four names.
 fn path_of(names: &[Name]) -> NamePath
-    requires some { 1 ≤ length names.now }
+    requires not_empty { 1 ≤ length names.now }
     requires few { length names.now ≤ 4 }
     ensures { result ≡ names.now }
 {

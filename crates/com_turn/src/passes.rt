@@ -39,7 +39,7 @@ pub(crate) fn deal<V: Logged>(
 
 /// One seat takes in what all passes know.
 pub(crate) fn collect<V: Logged>(board: &Board<V>, passes: Vec<Pass<V>>) -> SeatOf<V>
-    requires some { 0 < length passes.items }
+    requires not_empty { 0 < length passes.items }
     requires all { AreReady board.now passes.items }
     ensures own { result.table_id ≡ board.now }
     ensures idle { (result.me.0.spent ≡ false) × (result.me.0.stage ≡ Idle) × (result.me.0.known.parties ≡ length passes.items) }

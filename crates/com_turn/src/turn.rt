@@ -168,7 +168,7 @@ impl<V: Logged> Turn<V> {
 
     /// Hands the value out, for all passes in the order of their numbers. Without memory nothing changes.
     pub fn close(self, passes: Vec<Pass<V>>) -> Result<V, CloseRefused<V>>
-        requires some { 0 < length passes.items }
+        requires not_empty { 0 < length passes.items }
         requires all { AreReady self passes.items }
         ensures kept { IfOk result (λ value. All (λ pass. IsKept V.log V.base V.owner value pass) passes.items) }
         ensures toggles { IfOk result (λ _. AgreeOnToggles passes.items) }

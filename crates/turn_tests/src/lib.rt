@@ -61,7 +61,7 @@ pub fn open(
 
 /// The last pass of the list.
 pub fn last_pass(turn: &Turn<Diary>, passes: &mut Vec<Pass<Diary>>) -> Pass<Diary>
-    requires some { 0 < length passes.old.items }
+    requires not_empty { 0 < length passes.old.items }
     requires free { All (IsFree turn.now) passes.old.items }
     ensures rest { (length passes.new.items + 1 ≡ length passes.old.items) × All (IsFree turn.now) passes.new.items }
     ensures free { IsFree turn.now result }

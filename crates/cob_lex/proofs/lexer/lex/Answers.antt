@@ -15,7 +15,7 @@ lines-preserved c =
     let line = c.first_line-length.result in
     let all = c.lines.invariant.all in
     let number = c.lines.invariant.line in
-    let some = c.first_line-length.ensures.some in
+    let some = c.first_line-length.ensures.not_empty in
     let within = c.first_line-length.ensures.within in
     record {
       same = first_taken c.lines.awaited c.in_ok-awaited.awaited c.lines.in_paragraph c.paragraph_behind-in_paragraph.result c.lines.place c.lines.rest.now line.0.now _ line.1 c.line_kind-kind.result c.lines.tokens.items c.read_line.new.tokens.items _
