@@ -11,11 +11,11 @@ use std::io;
 
 /// The cases, which keep nothing from one to the next.
 #[derive(Drop)]
-struct Calls {
+struct JournalCases {
     alloc: Global,
 }
 
-impl Cases for Calls {
+impl Cases for JournalCases {
     fn answer(&mut self, call: &[u8], words: &mut Words<'_>) -> Result<String, AllocError> {
         match call {
             b"call_line" => calls::call_line(self.alloc, words.bytes()),
@@ -29,5 +29,5 @@ impl Cases for Calls {
 }
 
 fn main(rt: HostRuntime) -> io::Result<()> {
-    answer_cases(&rt, &mut Calls { alloc: rt.alloc() })
+    answer_cases(&rt, &mut JournalCases { alloc: rt.alloc() })
 }
