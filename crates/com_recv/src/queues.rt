@@ -224,7 +224,7 @@ impl Queues {
 }
 
 /// The node that the names of an area designate.
-fn designated(tree: &Tree, area: &InArea) -> Option<Node>
+pub fn designated(tree: &Tree, area: &InArea) -> Option<Node>
     requires { IsWritten tree.now }
     ensures node { result ≡ designated tree.now area.now }
     ensures within { IfSome result (λ node. node.row < length tree.now) }
