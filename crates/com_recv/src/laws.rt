@@ -16,8 +16,9 @@ pub fn an_area_designates_by_its_path()
         ↔ ((path : List (List ℕ)) × Designates area path × (node_with tree path ≡ Some node)) }
 {}
 
-/// A node chooses a leaf exactly where a message waits on a leaf under it.
-pub fn a_node_chooses_where_a_message_waits()
+/// Whether a node chooses a leaf is what `has_message` tells: that a message waits on a leaf under
+/// it.
+pub fn has_message_tells_whether_a_leaf_is_chosen()
     ensures { (tree : List TreeNode) (waiting : List WaitingRow) (node : NodeOf) →
         IsWritten tree → node.row < length tree →
         is_some (chosen_leaf tree waiting node) ≡ has_message tree waiting node }

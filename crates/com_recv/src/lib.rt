@@ -29,7 +29,7 @@ mod lists;
 mod queues;
 
 pub use laws::{
-    a_node_chooses_where_a_message_waits, an_area_designates_by_its_path,
+    an_area_designates_by_its_path, has_message_tells_whether_a_leaf_is_chosen,
     there_is_data_where_something_waits,
 };
 pub use queues::{Queues, Taken, designated};

@@ -86,7 +86,7 @@ pub fn hold(held: &mut Vec<Held>, unit: u32, leaf: Leaf, rest: Rest)
 {
     release(held, unit, leaf);
     if !rest.is_spent() {
-        let _ = held.insert(0, Held { unit, leaf, rest });
+        held.insert(0, Held { unit, leaf, rest }).unwrap();
     }
 }
 

@@ -66,7 +66,8 @@ impl Queues {
     }
 
     /// A message comes to wait on a leaf of the tree, behind all others. It has a greater arrival
-    /// number than those. Without memory nothing changes, and the message is handed back.
+    /// number than those. Without memory nothing changes, and the message is handed back. The tree
+    /// says which leaves there are, and is there for the contract alone.
     pub fn put(
         &mut self,
         _tree: &Tree,
@@ -91,7 +92,7 @@ impl Queues {
             leaf,
             message: Rest::of(message),
         };
-        let _ = self.waiting.push(waiting);
+        self.waiting.push(waiting).unwrap();
         Ok(())
     }
 
