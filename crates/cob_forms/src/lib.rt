@@ -11,8 +11,17 @@
 //! not depend on how they are grouped is a law, `first_of_both`.
 #![tactic(auto)]
 
+mod cursor;
 mod laws;
+mod reserved;
+mod stop;
 mod written;
 
+pub use cursor::{
+    is_kind, is_name, is_word, next_is_kind, next_is_name, next_is_word, skip_word, take_kind,
+    take_literal, take_name, take_number, take_word,
+};
 pub use laws::first_of_both;
+pub use reserved::is_reserved;
+pub use stop::Stop;
 pub use written::{Literal, Name, Number, Position};

@@ -1,11 +1,30 @@
 //! Words, numbers and literals of a program, with where they stand.
+ghost use Rattle.std.specs.Prelude.{◌≡◌, IfOk};
+ghost use Rattle.com_text.specs.Text.{IsText};
+ghost use Rattle.cob_lex.specs.Literals.{characters_of};
+ghost use Rattle.cob_forms.specs.Written.{between_marks, position_of};
+
+use cob_lex::Token;
 use com_text::Text;
+use std::alloc::{AllocError, Global};
 
 /// Where something stands in a source: its line and its column, both from 1.
 #[derive(Clone, Copy, Debug, PartialEq, Eq)]
 pub struct Position {
     pub line: u32,
     pub column: u32,
+}
+
+impl Position {
+    /// Where a token stands.
+    pub fn of(token: &Token) -> Position
+        ensures { result ≡ position_of token.now }
+    {
+        Position {
+            line: token.line,
+            column: token.column,
+        }
+    }
 }
 
 /// A word that a program chooses: the name of data, a CD or a paragraph.
@@ -27,4 +46,33 @@ pub struct Number {
 pub struct Literal {
     pub characters: Text,
     pub position: Position,
+}
+
+/// The characters that a literal stands for, by its text with the quotation marks.
+pub(crate) fn characters_between(alloc: Global, text: &Text) -> Result<Text, AllocError>
+    ensures { IfOk result (λ characters. characters ≡ characters_of (between_marks text.now)) }
+{
+    let bytes = text.as_bytes();
+    let past = bytes.len().saturating_sub(1);
+    if past < 1 {
+        return Ok(Text::of_vec(Vec::new(alloc)));
+    }
+    single_marks(alloc, &bytes[1..past])
+}
+
+/// The characters with one quotation mark for two.
+fn single_marks(alloc: Global, inside: &[u8]) -> Result<Text, AllocError>
+    requires { IsText inside.now }
+    ensures { IfOk result (λ characters. characters ≡ characters_of inside.now) }
+{
+    let mut characters = Vec::new(alloc);
+    let mut rest = inside;
+    'rest: while let [byte, behind @ ..] = rest {
+        characters.push(*byte)?;
+        rest = match rest {
+            [b'"', b'"', behind @ ..] => behind,
+            _ => behind,
+        };
+    }
+    Ok(Text::of_vec(characters))
 }

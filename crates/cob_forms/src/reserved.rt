@@ -1,0 +1,116 @@
+//! Reserved words.
+ghost use Rattle.std.specs.Prelude.{◌≡◌, bytes_eq};
+ghost use Rattle.std.specs.List.{list_any};
+ghost use Rattle.cob_forms.specs.Sorts.{is_reserved};
+
+/// The words that a program may not choose as names.
+const RESERVED_WORDS: [&[u8]; 94] = [
+    b"ACCEPT",
+    b"ADD",
+    b"ADVANCING",
+    b"AFTER",
+    b"AND",
+    b"AUTHOR",
+    b"BEFORE",
+    b"CD",
+    b"COMMUNICATION",
+    b"CONFIGURATION",
+    b"COUNT",
+    b"DATA",
+    b"DATE",
+    b"DATE-COMPILED",
+    b"DATE-WRITTEN",
+    b"DESTINATION",
+    b"DISABLE",
+    b"DIVISION",
+    b"EGI",
+    b"ELSE",
+    b"EMI",
+    b"ENABLE",
+    b"END",
+    b"ENVIRONMENT",
+    b"EQUAL",
+    b"ERROR",
+    b"ESI",
+    b"EXIT",
+    b"FILLER",
+    b"FOR",
+    b"FROM",
+    b"GO",
+    b"GREATER",
+    b"IDENTIFICATION",
+    b"IF",
+    b"INITIAL",
+    b"INPUT",
+    b"INSTALLATION",
+    b"INTO",
+    b"IS",
+    b"KEY",
+    b"LENGTH",
+    b"LESS",
+    b"LINE",
+    b"LINES",
+    b"MESSAGE",
+    b"MOVE",
+    b"NO",
+    b"NOT",
+    b"NUMERIC",
+    b"OBJECT-COMPUTER",
+    b"OCCURS",
+    b"OR",
+    b"OUTPUT",
+    b"PAGE",
+    b"PERFORM",
+    b"PIC",
+    b"PICTURE",
+    b"PROCEDURE",
+    b"PROGRAM-ID",
+    b"QUEUE",
+    b"RECEIVE",
+    b"RUN",
+    b"SECTION",
+    b"SECURITY",
+    b"SEGMENT",
+    b"SEND",
+    b"SOURCE",
+    b"SOURCE-COMPUTER",
+    b"SPACE",
+    b"SPACES",
+    b"STATUS",
+    b"STOP",
+    b"SUB-QUEUE-1",
+    b"SUB-QUEUE-2",
+    b"SUB-QUEUE-3",
+    b"SUBTRACT",
+    b"SYMBOLIC",
+    b"TABLE",
+    b"TERMINAL",
+    b"TEXT",
+    b"THAN",
+    b"THROUGH",
+    b"THRU",
+    b"TIME",
+    b"TIMES",
+    b"TO",
+    b"UNTIL",
+    b"VALUE",
+    b"WITH",
+    b"WORKING-STORAGE",
+    b"ZERO",
+    b"ZEROES",
+    b"ZEROS",
+];
+
+/// Whether a word is reserved.
+pub fn is_reserved(word: &[u8]) -> bool
+    ensures { result ≡ is_reserved word.now }
+{
+    is_one_of(word, &RESERVED_WORDS)
+}
+
+/// Whether a word is one of some.
+fn is_one_of(word: &[u8], words: &[&[u8]]) -> bool
+    ensures { result ≡ list_any (λ other. bytes_eq word.now other.now) words.now }
+{
+    words.iter().any(|other| word == *other)
+}
