@@ -1,5 +1,5 @@
 -- Forms as lists of parts, and where reading by them stops.
-use Rattle.std.specs.Prelude.{ℕ, Bool, true, false, List, [], ◌∷◌, ◌++◌, length, Option, Some, None, if◌then◌else◌}
+use Rattle.std.specs.Prelude.{ℕ, Bool, true, false, List, [], ◌∷◌, ◌++◌, length, Option, Some, None, is_some, if◌then◌else◌}
 use Rattle.cob_lex.specs.declared.token.Token.{Token}
 use Rattle.cob_forms.specs.Sorts.{Sort, is}
 
@@ -30,6 +30,10 @@ with_tail tail (row ∷ rows) = (row.0, row.1 ++ tail) ∷ with_tail tail rows
 abbrev pub behind : {Form : Type 0} → Rows Form → Token → Option (List (Part Form))
 behind [] t = None
 behind (row ∷ rows) t = if is row.0 t then Some row.1 else behind rows t
+
+-- whether a token is of a sort with which a form begins
+abbrev pub starts : {Form : Type 0} → Rows Form → Token → Bool
+starts rows t = is_some (behind rows t)
 
 -- the parts of a form that was entered, before those below it
 abbrev pub entered : {Form : Type 0} → Option (List (Part Form)) → List (Part Form) → Option (List (Part Form)) → Option (List (Part Form))

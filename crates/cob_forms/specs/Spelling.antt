@@ -1,12 +1,12 @@
 -- How what is read is spelled: from some tokens to those behind it.
-use Rattle.std.specs.Prelude.{◌≡◌, ◌⊎◌, Bool, true, false, List, [], ◌∷◌}
+use Rattle.std.specs.Prelude.{◌≡◌, ◌⊎◌, ℕ, Bool, true, false, List, [], ◌∷◌, Option, Some, None}
 use Rattle.cob_lex.specs.declared.token.Token.{Token}
 use Rattle.cob_lex.specs.declared.token.TokenKind.TheVariants as tokens
 use Rattle.cob_forms.specs.declared.written.Position.{Position}
 use Rattle.cob_forms.specs.declared.written.Name.{Name}
 use Rattle.cob_forms.specs.declared.written.Number.{Number}
 use Rattle.cob_forms.specs.declared.written.Literal.{Literal}
-use Rattle.cob_forms.specs.Sorts.{Sort, is, name, of_kind}
+use Rattle.cob_forms.specs.Sorts.{Sort, is, reserved, name, of_kind}
 use Rattle.cob_forms.specs.Written.{literal_of, name_of, number_of, position_of}
 use Rattle.cob_forms.specs.Readers.{begins}
 
@@ -78,3 +78,15 @@ all_of test S (x ∷ xs) = S x ⊙ all_of test S xs
 abbrev pub some_of : {A : Type 0} → (Token → Bool) → (A → Spelling) → List A → Spelling
 some_of test S [] = nowhere
 some_of test S (x ∷ xs) = S x ⊙ all_of test S xs
+
+-- what may be left out
+abbrev pub maybe_of : {A : Type 0} → (Token → Bool) → (A → Spelling) → Option A → Spelling
+maybe_of test S None = unless test
+maybe_of test S (Some x) = S x
+
+-- a reserved word, and one that may be left out
+abbrev pub word : List ℕ → Spelling
+word text = a (reserved text)
+
+abbrev pub maybe_word : List ℕ → Spelling
+maybe_word text = perhaps (reserved text)

@@ -1,1 +1,2 @@
-mod WorkedSources
+pub mod WorkedSources
+pub mod WorkedFaults

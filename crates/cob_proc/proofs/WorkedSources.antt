@@ -11,7 +11,7 @@ use Rattle.cob_lex.proofs.Programs.{source}
 use Rattle.cob_proc.specs.Forms.{procedure_division, rows_of}
 
 -- the tokens of a source without a fault
-abbrev tokens_in : Result (List Token) SourceFault → List Token
+abbrev pub tokens_in : Result (List Token) SourceFault → List Token
 tokens_in (Ok tokens) = tokens
 tokens_in (Err fault) = []
 
@@ -23,12 +23,12 @@ abbrev asked : List ℕ → Option SourceFault
 asked source = asked_of (tokens_in (tokens_of source))
 
 -- lines in area B
-abbrev in_area_b : List (List ℕ) → List (List ℕ)
+abbrev pub in_area_b : List (List ℕ) → List (List ℕ)
 in_area_b [] = []
 in_area_b (line ∷ lines) = (codes "           " ++ line) ∷ in_area_b lines
 
 -- a division with one paragraph, whose sentences begin in line 3
-abbrev statements : List (List ℕ) → List ℕ
+abbrev pub statements : List (List ℕ) → List ℕ
 statements lines = source (codes "       PROCEDURE DIVISION." ∷ codes "       MAIN." ∷ in_area_b lines)
 
 -- a paragraph may have no sentence

@@ -1,1 +1,4 @@
 pub mod Forms
+pub mod Trees
+pub mod Spelled
+pub mod Faults

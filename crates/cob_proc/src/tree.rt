@@ -1,18 +1,19 @@
 //! What a Procedure Division is made of. Each form has a variant, and each of its parts a field, in
 //! written order.
 use cob_forms::{Literal, Name, Number, Position};
+use com_text::Rows;
 
 /// A Procedure Division.
 #[derive(Debug, Drop)]
 pub struct Procedure {
-    pub paragraphs: Vec<Paragraph>,
+    pub paragraphs: Rows<Paragraph>,
 }
 
 /// A paragraph: its name, and its sentences one after another, each a list of statements.
 #[derive(Debug, Drop)]
 pub struct Paragraph {
     pub name: Name,
-    pub sentences: Vec<Vec<Statement>>,
+    pub sentences: Rows<Vec<Statement>>,
 }
 
 /// A statement. A list of statements is empty where it is not written.
@@ -21,7 +22,7 @@ pub enum Statement {
     /// MOVE source TO targets.
     Move {
         source: Operand,
-        targets: Vec<Identifier>,
+        targets: Rows<Identifier>,
     },
     /// ADD addend TO target.
     Add {
@@ -131,7 +132,7 @@ pub enum Key {
 #[derive(Debug, Drop)]
 pub struct Condition {
     pub joint: Joint,
-    pub parts: Vec<Simple>,
+    pub parts: Rows<Simple>,
 }
 
 /// How simple conditions are joined.
