@@ -1,1 +1,5 @@
+mod Sources
 mod WorkedSources
+mod WorkedFaults
+mod WorkedDivisions
+mod OneDivision

@@ -8,12 +8,8 @@ use Rattle.cob_lex.specs.Lexing.{lines_tokens, text_tokens, tokens_of}
 use Rattle.cob_forms.specs.Forms.{next, reading}
 use Rattle.cob_forms.specs.Faults.{fault, wanted_word}
 use Rattle.cob_lex.proofs.Programs.{echo, leaver, orders, source}
+use Rattle.cob_data.proofs.Sources.{tokens_in, items, entries}
 use Rattle.cob_data.specs.Forms.{data_division, rows_of}
-
--- the tokens of a source without a fault
-abbrev tokens_in : Result (List Token) SourceFault → List Token
-tokens_in (Ok tokens) = tokens
-tokens_in (Err fault) = []
 
 abbrev asked_of : List Token → Option SourceFault
 asked_of tokens = wanted_word tokens (reading rows_of data_division tokens)
@@ -21,14 +17,6 @@ asked_of tokens = wanted_word tokens (reading rows_of data_division tokens)
 -- where another word or sign is wanted in a source
 abbrev asked : List ℕ → Option SourceFault
 asked source = asked_of (tokens_in (tokens_of source))
-
--- a program with items in Working-Storage, which begin in line 5
-abbrev items : List (List ℕ) → List ℕ
-items lines = source (codes "       IDENTIFICATION DIVISION." ∷ codes "       PROGRAM-ID. P." ∷ codes "       DATA DIVISION." ∷ codes "       WORKING-STORAGE SECTION." ∷ lines ++ codes "       PROCEDURE DIVISION." ∷ [])
-
--- a program with CD entries, which begin in line 5
-abbrev entries : List (List ℕ) → List ℕ
-entries lines = source (codes "       IDENTIFICATION DIVISION." ∷ codes "       PROGRAM-ID. P." ∷ codes "       DATA DIVISION." ∷ codes "       COMMUNICATION SECTION." ∷ lines ++ codes "       PROCEDURE DIVISION." ∷ [])
 
 -- a whole program
 echo_is_read : asked (echo) ≡ None

@@ -1,23 +1,50 @@
 //! What the divisions before the Procedure Division are made of. Each form has a variant, and each of
 //! its parts a field, in written order.
 use cob_forms::{Literal, Name, Number, Position};
-use com_text::Text;
+use com_text::{Rows, Text};
 
-/// The Data Division of a program, with the program's name.
+/// The divisions of a program up to the word PROCEDURE: the program's name, the words of
+/// SOURCE-COMPUTER and OBJECT-COMPUTER where they are written, and the two sections of the Data
+/// Division.
 #[derive(Debug, Drop)]
 pub struct DataDivision {
     pub program: Name,
-    pub working_storage: Vec<Item>,
-    pub communication: Vec<CdEntry>,
+    pub source_computer: Option<Name>,
+    pub object_computer: Option<Name>,
+    pub working_storage: Rows<Item>,
+    pub communication: Rows<CdEntry>,
 }
 
-/// An item: its level, its name where it is no FILLER, and its clauses.
+/// An item: its level, its name where it is no FILLER, its clauses, and where its characters are.
 #[derive(Debug, Drop)]
 pub struct Item {
     pub level: Number,
     pub name: Option<Name>,
     pub picture: Option<Picture>,
     pub value: Option<Value>,
+    pub place: ItemPlace,
+}
+
+/// Where the characters of an item are: the number of its area, from 0, their place there, from 0, how
+/// many they are, and their sort. The areas are those of the records of Working-Storage, in written
+/// order, and then those of the CDs. A record over a CD is in the area of the CD.
+#[derive(Clone, Copy, Debug, PartialEq, Eq)]
+pub struct ItemPlace {
+    pub area: u32,
+    pub start: u32,
+    pub length: u32,
+    pub sort: ItemSort,
+}
+
+/// What an item is by its picture.
+#[derive(Clone, Copy, Debug, PartialEq, Eq)]
+pub enum ItemSort {
+    /// A picture of X.
+    Characters,
+    /// A picture of 9.
+    Digits,
+    /// No picture.
+    Group,
 }
 
 /// A picture as it is written.
@@ -38,34 +65,35 @@ pub enum Value {
     Zeros(Position),
 }
 
-/// A CD entry with the records that redefine its area.
+/// A CD entry with the number of its area and the records that redefine the area.
 #[derive(Debug, Drop)]
 pub struct CdEntry {
     pub name: Name,
-    pub area: CdArea,
-    pub records: Vec<Item>,
+    pub body: CdBody,
+    pub area: u32,
+    pub records: Rows<Item>,
 }
 
-/// What the area of a CD is for, and the names of its fields.
+/// What a CD is for, and the names of its fields.
 #[derive(Debug, Drop)]
-pub enum CdArea {
+pub enum CdBody {
     /// INPUT by clauses. The position is that of INITIAL, where it is written.
     Input {
         initial: Option<Position>,
-        clauses: Vec<InputClause>,
+        clauses: Rows<InputClause>,
     },
     /// INPUT by eleven names in the order of the area, None for FILLER.
     InputNames {
         initial: Option<Position>,
-        names: Vec<Option<Name>>,
+        names: Rows<Option<Name>>,
     },
     /// OUTPUT by clauses.
     Output {
-        clauses: Vec<OutputClause>,
+        clauses: Rows<OutputClause>,
     },
 }
 
-/// A clause of an input CD: its field, the name for it, and where the clause begins.
+/// A clause of an input CD: where it begins, its field, and the name for it.
 #[derive(Debug, Drop)]
 pub struct InputClause {
     pub position: Position,

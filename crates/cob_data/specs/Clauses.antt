@@ -1,0 +1,85 @@
+-- The clauses of a CD entry, and the fields that they name.
+use Rattle.std.specs.Prelude.{ℕ, ◌+◌, ◌*◌, Bool, true, false, not, ◌&&◌, ◌||◌, if◌then◌else◌, List, [], ◌∷◌, ◌++◌, map, find, codes, bytes_eq, Option, Some, None, option_map}
+use Rattle.std.specs.List.{list_any}
+use Rattle.com_text.specs.Digits.{number}
+use Rattle.cob_lex.specs.declared.token.Token.{Token}
+use Rattle.cob_lex.specs.declared.token.TokenKind.TheVariants as tokens
+use Rattle.cob_forms.specs.Sorts.{Sort, reserved, name, of_kind, is}
+use Rattle.cob_data.specs.declared.tree.InputField.{InputField}
+use Rattle.cob_data.specs.declared.tree.InputField.TheVariants as fields
+use Rattle.cob_data.specs.Entries.{put, all_but_last, has, behind}
+
+abbrev pub is_input : List Token → Bool
+is_input entry = has (codes "INPUT") entry
+
+-- what stands behind INPUT or OUTPUT
+abbrev pub body_of : List Token → List Token
+body_of entry = behind (λ t. is (reserved (codes "INPUT")) t || is (reserved (codes "OUTPUT")) t) entry
+
+abbrev pub is_name_or_filler : Token → Bool
+is_name_or_filler t = is name t || is (reserved (codes "FILLER")) t
+
+-- the eleven names of an input CD stand in place of clauses
+abbrev pub lists_names : List Token → Bool
+lists_names [] = false
+lists_names (t ∷ ts) = is_name_or_filler t
+
+abbrev pub is_followed_by : List ℕ → List Token → Bool
+is_followed_by word [] = false
+is_followed_by word (t ∷ ts) = is (reserved word) t
+
+-- a clause ends with its name, or with the number of a table and its TIMES
+abbrev pub ends_clause : Token → List Token → Bool
+ends_clause t ts =
+    is name t || is (reserved (codes "TIMES")) t || (is (of_kind tokens.Number) t && not (is_followed_by (codes "TIMES") ts))
+
+abbrev pub cut : List Token → List (List Token)
+cut [] = []
+cut (t ∷ ts) = put (ends_clause t ts) t (cut ts)
+
+-- the clauses behind which a further token stands
+abbrev pub clauses_of : List Token → List (List Token)
+clauses_of entry = if lists_names (body_of entry) then [] else all_but_last (cut (body_of entry))
+
+-- The words by which the fields of an input CD are told apart, and those of an output CD. The first of them
+-- that stands in a clause is the clause's.
+abbrev pub input_words : List (List ℕ × InputField)
+input_words =
+    (codes "QUEUE", fields.Queue) ∷ (codes "SUB-QUEUE-1", fields.SubQueue1) ∷ (codes "SUB-QUEUE-2", fields.SubQueue2)
+    ∷ (codes "SUB-QUEUE-3", fields.SubQueue3) ∷ (codes "DATE", fields.MessageDate) ∷ (codes "TIME", fields.MessageTime)
+    ∷ (codes "SOURCE", fields.Source) ∷ (codes "LENGTH", fields.TextLength) ∷ (codes "END", fields.EndKey)
+    ∷ (codes "STATUS", fields.StatusKey) ∷ (codes "COUNT", fields.MessageCount) ∷ []
+
+pub data OutputField : Type 0 where
+  destination_count text_length status_key destination_table error_key destination : OutputField
+
+abbrev pub output_words : List (List ℕ × OutputField)
+output_words =
+    (codes "COUNT", destination_count) ∷ (codes "LENGTH", text_length) ∷ (codes "STATUS", status_key)
+    ∷ (codes "TABLE", destination_table) ∷ (codes "ERROR", error_key) ∷ (codes "DESTINATION", destination) ∷ []
+
+-- the first row whose word stands in a clause
+abbrev pub told_by : {A : Type 0} → List (List ℕ × A) → List Token → Option (List ℕ × A)
+told_by words clause = find (λ row. has row.0 clause) words
+
+abbrev pub word_of_row : {A : Type 0} → Option (List ℕ × A) → List ℕ
+word_of_row None = []
+word_of_row (Some row) = row.0
+
+abbrev pub clause_word : Bool → List Token → List ℕ
+clause_word true clause = word_of_row (told_by input_words clause)
+clause_word false clause = word_of_row (told_by output_words clause)
+
+abbrev pub number_in : List Token → Option Token
+number_in ts = find (is (of_kind tokens.Number)) ts
+
+-- how often the destinations of an output CD occur, and how long the area of a CD is
+abbrev pub occurrences : List Token → Option ℕ
+occurrences entry = option_map (λ t. number t.text) (number_in entry)
+
+abbrev pub or_one : Option ℕ → ℕ
+or_one None = 1
+or_one (Some n) = n
+
+abbrev pub area_length : List Token → ℕ
+area_length entry = if is_input entry then 87 else 10 + 13 * or_one (occurrences entry)

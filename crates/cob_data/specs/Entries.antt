@@ -1,0 +1,108 @@
+-- The entries of a text, each up to its period, and what the tokens of an entry are by where they stand.
+use Rattle.std.specs.Prelude.{ℕ, ◌-◌, Bool, true, false, not, ◌&&◌, if◌then◌else◌, List, [], ◌∷◌, ◌++◌, length, take, map, filter, codes, find, Option, Some, None}
+use Rattle.std.specs.List.{list_any}
+use Rattle.cob_lex.specs.declared.token.Token.{Token}
+use Rattle.cob_lex.specs.declared.token.TokenKind.TheVariants as tokens
+use Rattle.cob_forms.specs.Sorts.{Sort, reserved, name, of_kind, is}
+use Rattle.cob_data.specs.Forms.{period}
+
+-- a token at the front of the first of some lists, or by itself in a list before them
+abbrev pub put : Bool → Token → List (List Token) → List (List Token)
+put true t lists = (t ∷ []) ∷ lists
+put false t [] = (t ∷ []) ∷ []
+put false t (ts ∷ lists) = (t ∷ ts) ∷ lists
+
+-- The entries of a text: a header, an item or a CD entry up to its period. The last one may lack it.
+abbrev pub entries_of : List Token → List (List Token)
+entries_of [] = []
+entries_of (t ∷ ts) = put (is period t) t (entries_of ts)
+
+abbrev pub all_but_last : {A : Type 0} → List A → List A
+all_but_last list = take (length list - 1) list
+
+-- it begins with the word
+abbrev pub leads : List ℕ → List Token → Bool
+leads word [] = false
+leads word (t ∷ ts) = is (reserved word) t
+
+-- a header behind which the program chooses a word, as `PROGRAM-ID.`
+abbrev pub wants_word : List Token → Bool
+wants_word entry = list_any (λ word. leads word entry) (codes "PROGRAM-ID" ∷ codes "SOURCE-COMPUTER" ∷ codes "OBJECT-COMPUTER" ∷ [])
+
+-- each entry, and whether it is such a word; the first one is where that is said of it
+abbrev pub told : Bool → List (List Token) → List (Bool × List Token)
+told word [] = []
+told word (entry ∷ entries) = (word, entry) ∷ told (not word && wants_word entry) entries
+
+-- the entries that are no such words: headers, items and CD entries
+abbrev pub described : List Token → List (List Token)
+described ts = map (λ x. x.1) (filter (λ x. not x.0) (told false (entries_of ts)))
+
+abbrev pub first_token : List Token → Option Token
+first_token [] = None
+first_token (t ∷ ts) = Some t
+
+abbrev pub second_token : List Token → Option Token
+second_token [] = None
+second_token (t ∷ ts) = first_token ts
+
+abbrev pub last_token : List Token → Option Token
+last_token [] = None
+last_token (t ∷ []) = Some t
+last_token (t ∷ u ∷ ts) = last_token (u ∷ ts)
+
+-- the word behind a header
+abbrev pub chosen_word : List ℕ → List (Bool × List Token) → Option Token
+chosen_word header [] = None
+chosen_word header (x ∷ []) = None
+chosen_word header (x ∷ y ∷ others) = if not x.0 && leads header x.1 then first_token y.1 else chosen_word header (y ∷ others)
+
+-- an item begins with a number, and a CD entry with CD
+abbrev pub is_item : List Token → Bool
+is_item [] = false
+is_item (t ∷ ts) = is (of_kind tokens.Number) t
+
+abbrev pub is_cd : List Token → Bool
+is_cd entry = leads (codes "CD") entry
+
+abbrev pub has : List ℕ → List Token → Bool
+has word ts = list_any (is (reserved word)) ts
+
+-- the tokens behind the first one that passes a test
+abbrev pub behind : (Token → Bool) → List Token → List Token
+behind test [] = []
+behind test (t ∷ ts) = if test t then ts else behind test ts
+
+-- the picture of an item, and its value, which stands behind VALUE [IS]
+abbrev pub picture_in : List Token → Option Token
+picture_in entry = find (is (of_kind tokens.Picture)) entry
+
+abbrev pub value_in : List Token → Option Token
+value_in entry = find (λ t. not (is (reserved (codes "IS")) t)) (behind (is (reserved (codes "VALUE"))) entry)
+
+-- A header or a CD entry, with the items behind it.
+pub record Run : Type 0 where
+  pub head : List Token
+  pub items : List (List Token)
+
+abbrev pub run : List Token → List (List Token) → Run
+run head items = record { head = head; items = items }
+
+-- items that stand before the first of some runs, and the runs
+abbrev pub gathered : Bool → List Token → List (List Token) × List Run → List (List Token) × List Run
+gathered true item others = (item ∷ others.0, others.1)
+gathered false head others = ([], run head others.0 ∷ others.1)
+
+abbrev pub parted : List (List Token) → List (List Token) × List Run
+parted [] = ([], [])
+parted (entry ∷ entries) = gathered (is_item entry) entry (parted entries)
+
+abbrev pub runs_of : List Token → List Run
+runs_of ts = (parted (described ts)).1
+
+abbrev pub storage_items : List Run → List (List Token)
+storage_items [] = []
+storage_items (r ∷ runs) = if leads (codes "WORKING-STORAGE") r.head then r.items else storage_items runs
+
+abbrev pub cd_runs : List Run → List Run
+cd_runs runs = filter (λ r. is_cd r.head) runs

@@ -1,0 +1,266 @@
+-- The faults of the divisions before the Procedure Division.
+use Rattle.std.specs.Prelude.{ℕ, zero, suc, ◌+◌, ◌-◌, Bool, true, false, not, ◌&&◌, ◌||◌, ◌==◌, nat_le, nat_lt, if◌then◌else◌, List, [], ◌∷◌, ◌++◌, length, take, drop, sum, map, filter, flat_map, find, codes, bytes_eq, is_none, Option, Some, None, option_to_list}
+use Rattle.std.specs.List.{list_any}
+use Rattle.com_text.specs.Digits.{number}
+use Rattle.cob_lex.specs.declared.fault.SourceFault.{SourceFault}
+use Rattle.cob_lex.specs.declared.fault.SourceKind.{SourceKind}
+use Rattle.cob_lex.specs.declared.fault.SourceKind.TheVariants as faults
+use Rattle.cob_lex.specs.declared.token.Token.{Token}
+use Rattle.cob_lex.specs.declared.token.TokenKind.TheVariants as tokens
+use Rattle.cob_forms.specs.Sorts.{Sort, reserved, name, of_kind, is}
+use Rattle.cob_forms.specs.Forms.{Reading, reading}
+use Rattle.cob_forms.specs.Faults.{fault, first, wanted_word, counting}
+use Rattle.cob_data.specs.declared.tree.ItemSort.{ItemSort}
+use Rattle.cob_data.specs.declared.tree.ItemSort.TheVariants.{Characters, Digits, Group}
+use Rattle.cob_data.specs.declared.tree.Value.{Value}
+use Rattle.cob_data.specs.declared.tree.Value.TheVariants as values
+use Rattle.cob_data.specs.Forms.{data_division, rows_of}
+use Rattle.cob_data.specs.Entries.{Run, all_but_last, told, entries_of, described, runs_of, is_item, is_cd, first_token, second_token, picture_in, value_in}
+use Rattle.cob_data.specs.Clauses.{is_input, clauses_of, clause_word, area_length}
+use Rattle.cob_data.specs.Pictures.{size_of, sort_of}
+use Rattle.cob_data.specs.Levels.{is_level, rank_of, rank, is_group, own_size, sort_of_item, records_of}
+use Rattle.cob_data.specs.Divisions.{value_of}
+
+abbrev pub at : SourceKind → Token → SourceFault
+at kind t = fault t.line t.column kind
+
+abbrev pub at_any : SourceKind → List Token → List SourceFault
+at_any kind ts = map (at kind) ts
+
+abbrev pub unless : Bool → SourceKind → Option Token → List SourceFault
+unless true kind t = []
+unless false kind t = at_any kind (option_to_list t)
+
+-- COLUMNS
+
+abbrev pub in_area_a : Token → Bool
+in_area_a t = nat_le 8 t.column && nat_le t.column 11
+
+-- the first word of a header, CD, and the levels 01 and 77 are in area A
+abbrev pub wants_area_a : Token → Bool
+wants_area_a t = not (is (of_kind tokens.Number) t) || (is_level t.text && rank_of t.text == 1)
+
+-- levels 02 to 49 are in either area
+abbrev pub is_free : Token → Bool
+is_free t = is (of_kind tokens.Number) t && is_level t.text && not (rank_of t.text == 1)
+
+-- The area of a token is right, by whether it begins an entry, and by the line of the last token before it
+-- that is in area A: any other token is in area B or in that line.
+abbrev pub is_in_place : Bool → ℕ → Token → Bool
+is_in_place begins line t =
+    if begins && wants_area_a t then in_area_a t else ((begins && is_free t) || not (in_area_a t)) || t.line == line
+
+abbrev pub line_behind : ℕ → Token → ℕ
+line_behind line t = if in_area_a t then t.line else line
+
+-- each token of an entry, and whether it begins a header, an item or a CD entry
+abbrev pub marked : Bool → List Token → List (Bool × Token)
+marked word [] = []
+marked word (t ∷ ts) = (not word, t) ∷ map (λ u. (false, u)) ts
+
+abbrev pub column_faults : ℕ → List (Bool × Token) → List SourceFault
+column_faults line [] = []
+column_faults line (x ∷ xs) =
+    unless (is_in_place x.0 line x.1) faults.BadColumn (Some x.1) ++ column_faults (line_behind line x.1) xs
+
+abbrev pub bad_columns : List Token → List SourceFault
+bad_columns ts = column_faults 0 (flat_map (λ x. marked x.0 x.1) (told false (entries_of ts)))
+
+-- NAMES, PICTURES AND NUMBERS
+
+abbrev pub bad_pictures : List Token → List SourceFault
+bad_pictures ts = at_any faults.BadPicture (filter (λ t. is (of_kind tokens.Picture) t && is_none (size_of t.text)) ts)
+
+-- the names of data and CDs
+abbrev pub names_in : List (List Token) → List Token
+names_in entries = flat_map (filter (is name)) entries
+
+abbrev pub name_faults : List (List ℕ) → List Token → List SourceFault
+name_faults earlier [] = []
+name_faults earlier (t ∷ ts) =
+    unless (not (list_any (bytes_eq t.text) earlier)) faults.TwiceDeclared (Some t) ++ name_faults (t.text ∷ earlier) ts
+
+-- the names of data alone
+abbrev pub data_names : List (List Token) → List Token
+data_names entries = names_in (map (λ entry. if is_cd entry then drop 2 entry else entry) entries)
+
+-- the name with which there are more than so many
+abbrev pub name_past : ℕ → List Token → List SourceFault
+name_past limit names = at_any faults.OverLimit (take 1 (drop limit names))
+
+-- each INITIAL but the first
+abbrev pub second_initials : List (List Token) → List SourceFault
+second_initials entries = at_any faults.TwoInitial (drop 1 (filter (is (reserved (codes "INITIAL"))) (flat_map (λ e. e) (filter is_cd entries))))
+
+-- a number of occurrences is 1 to 8
+abbrev pub bad_tables : List (List Token) → List SourceFault
+bad_tables entries =
+    at_any faults.OverLimit (filter
+    (λ t. is (of_kind tokens.Number) t && not (nat_le 1 (number t.text) && nat_le (number t.text) 8)) (flat_map (λ e. e) (filter is_cd entries)))
+
+-- CLAUSES
+
+-- a clause twice, told at its first word
+abbrev pub clause_faults : Bool → List (List ℕ) → List (List Token) → List SourceFault
+clause_faults input earlier [] = []
+clause_faults input earlier (clause ∷ clauses) =
+    unless (not (list_any (bytes_eq (clause_word input clause)) earlier)) faults.TwiceDeclared (first_token clause)
+    ++ clause_faults input (clause_word input clause ∷ earlier) clauses
+
+abbrev pub clauses_twice : List (List Token) → List SourceFault
+clauses_twice entries = flat_map (λ entry. clause_faults (is_input entry) [] (clauses_of entry)) (filter is_cd entries)
+
+-- LEVELS
+
+abbrev pub is_as : ℕ → Option ℕ → Bool
+is_as own None = true
+is_as own (Some other) = own == other
+
+-- An item of a rank may stand behind these items, of which the last is first: the last one of a lower rank is a
+-- group, and the item behind that one has the same rank.
+abbrev pub is_under_group : ℕ → Option ℕ → List (List Token) → Bool
+is_under_group own behind [] = false
+is_under_group own behind (x ∷ before) =
+    if nat_lt (rank x) own then is_group (sort_of_item x) && is_as own behind else is_under_group own (Some (rank x)) before
+
+abbrev pub first_text : List Token → List ℕ
+first_text [] = []
+first_text (t ∷ ts) = t.text
+
+-- A level is right, by what stands before it: it is one, 77 stands in Working-Storage, and what is no record is
+-- under a group whose items all have this level.
+abbrev pub is_level_right : Bool → List (List Token) → List Token → Bool
+is_level_right over_cd before item =
+    is_level (first_text item) && not (over_cd && number (first_text item) == 77)
+    && (rank item == 1 || is_under_group (rank item) None before)
+
+abbrev pub level_faults : Bool → List (List Token) → List (List Token) → List SourceFault
+level_faults over_cd before [] = []
+level_faults over_cd before (item ∷ items) =
+    unless (is_level_right over_cd before item) faults.WrongKind (first_token item) ++ level_faults over_cd (item ∷ before) items
+
+-- WHOLE ITEMS
+
+-- A group has items below it, so its level is neither 77 nor 49, and the item behind it has a higher one.
+abbrev pub is_group_right : ℕ → List Token → Bool
+is_group_right behind item =
+    not (is_group (sort_of_item item))
+    || (not (number (first_text item) == 77 || number (first_text item) == 49) && nat_lt (rank item) behind)
+
+abbrev pub up_to : ℕ → ℕ → Option SourceKind
+up_to limit n = if nat_le n limit then None else Some faults.WrongLength
+
+-- what is wrong with the value of an item of so many characters
+abbrev pub value_kind : ItemSort → ℕ → Value → Option SourceKind
+value_kind Characters n (values.Literal l) = up_to n (length l.characters)
+value_kind Digits n (values.Number k) = up_to n (length k.digits)
+value_kind Characters n (values.Spaces p) = None
+value_kind Characters n (values.Zeros p) = None
+value_kind Digits n (values.Zeros p) = None
+value_kind sort n other = Some faults.WrongKind
+
+abbrev pub sized_value : Option ℕ → ItemSort → Value → Option SourceKind
+sized_value None sort value = None
+sized_value (Some n) sort value = value_kind sort n value
+
+-- A value stands at elementary items of Working-Storage alone. Where the picture is bad, no more is said.
+abbrev pub valued : Bool → Option Token → Value → Option SourceKind
+valued true picture value = Some faults.WrongKind
+valued false None value = Some faults.WrongKind
+valued false (Some picture) value = sized_value (size_of picture.text) (sort_of picture.text) value
+
+abbrev pub kind_at : Option SourceKind → Token → List SourceFault
+kind_at None t = []
+kind_at (Some kind) t = at kind t ∷ []
+
+abbrev pub value_faults : Bool → Option Token → Option Token → List SourceFault
+value_faults over_cd picture None = []
+value_faults over_cd picture (Some value) = kind_at (valued over_cd picture (value_of value)) value
+
+abbrev pub item_faults : Bool → ℕ → List Token → List SourceFault
+item_faults over_cd behind item =
+    unless (is_group_right behind item) faults.WrongKind (first_token item) ++ value_faults over_cd (picture_in item) (value_in item)
+
+-- Items that count are those behind which a further token stands. The last item of a text has none, and the
+-- last item of a run that another follows has none of its own run.
+abbrev pub whole_faults : Bool → Bool → List (List Token) → List SourceFault
+whole_faults is_last over_cd [] = []
+whole_faults true over_cd (item ∷ []) = []
+whole_faults false over_cd (item ∷ []) = item_faults over_cd 0 item
+whole_faults is_last over_cd (item ∷ next ∷ items) = item_faults over_cd (rank next) item ++ whole_faults is_last over_cd (next ∷ items)
+
+-- RECORDS
+
+abbrev pub is_bad : Option Token → Bool
+is_bad None = false
+is_bad (Some picture) = is_none (size_of picture.text)
+
+abbrev pub record_size : List (List Token) → ℕ
+record_size items = sum (map own_size items)
+
+abbrev pub first_item : List (List Token) → List Token
+first_item [] = []
+first_item (item ∷ items) = item
+
+-- A record has at most 2,000 characters, and over a CD just those of the area.
+abbrev pub is_record_right : Option ℕ → ℕ → Bool
+is_record_right None n = true
+is_record_right (Some area) n = n == area
+
+abbrev pub record_faults : Option ℕ → List (List Token) → List SourceFault
+record_faults area items =
+    unless (list_any (λ item. is_bad (picture_in item)) items || nat_le (record_size items) 2000) faults.OverLimit (first_token (first_item items))
+    ++ unless (list_any (λ item. is_bad (picture_in item)) items || is_record_right area (record_size items)) faults.WrongLength (second_token (first_item items))
+
+abbrev pub counted : {A : Type 0} → Bool → List A → List A
+counted is_last list = if is_last then all_but_last list else list
+
+abbrev pub over : Run → Option ℕ
+over run = if is_cd run.head then Some (area_length run.head) else None
+
+abbrev pub run_faults : Bool → Run → List SourceFault
+run_faults is_last run =
+    level_faults (is_cd run.head) [] run.items ++ whole_faults is_last (is_cd run.head) run.items
+    ++ flat_map (record_faults (over run)) (counted is_last (records_of run.items))
+
+abbrev pub runs_faults : List Run → List SourceFault
+runs_faults [] = []
+runs_faults (run ∷ []) = run_faults true run
+runs_faults (run ∷ next ∷ runs) = run_faults false run ++ runs_faults (next ∷ runs)
+
+-- the item with which items have more than so many characters
+abbrev pub characters_past : ℕ → ℕ → List (List Token) → List SourceFault
+characters_past limit total [] = []
+characters_past limit total (item ∷ items) =
+    unless (nat_lt limit total || nat_le (total + own_size item) limit) faults.OverLimit (first_token item)
+    ++ characters_past limit (total + own_size item) items
+
+-- ALL FAULTS
+
+-- how many data names and characters of items a program may have
+pub record Limits : Type 0 where
+  pub names : ℕ
+  pub characters : ℕ
+
+abbrev pub limits : Limits
+limits = record { names = 2000; characters = 65536 }
+
+-- the faults that tokens have apart from where another one is wanted
+abbrev pub other_faults : Limits → List Token → List SourceFault
+other_faults limits ts =
+    bad_columns ts ++ bad_pictures ts
+    ++ name_faults [] (names_in (described ts)) ++ name_past limits.names (data_names (described ts))
+    ++ second_initials (described ts) ++ bad_tables (described ts) ++ clauses_twice (described ts)
+    ++ runs_faults (runs_of ts)
+    ++ characters_past limits.characters 0 (filter is_item (all_but_last (described ts)))
+
+abbrev pub faults_by : Limits → List Token → Reading → List SourceFault
+faults_by limits ts read = other_faults limits (counting ts read) ++ option_to_list (wanted_word ts read)
+
+-- all faults of the tokens of a source up to the word PROCEDURE
+abbrev pub data_faults : List Token → List SourceFault
+data_faults ts = faults_by limits ts (reading rows_of data_division ts)
+
+-- the fault that is told
+abbrev pub data_fault : List Token → Option SourceFault
+data_fault ts = first (data_faults ts)
