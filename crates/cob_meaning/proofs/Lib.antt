@@ -1,0 +1,10 @@
+mod Trees
+mod SmallPrograms
+mod WorkedMoves
+mod WorkedRuns
+mod WorkedPrograms
+mod WorkedFollows
+mod WorkedPasses
+mod Steady
+mod Replies
+mod Bounds

@@ -1,0 +1,194 @@
+-- ECHO and ORDERS, the programs of the worked sources, with the replies that they get.
+use Rattle.std.proofs.Common.{◌≡◌, ℕ, true, false, List, [], ◌∷◌, ◌++◌, Option, Some, None, refl, codes}
+use Rattle.com_text.specs.Name.{field_of, spaces}
+use Rattle.com_cd.specs.InputArea.{opening_area, zeros}
+use Rattle.com_cd.specs.OutputArea.{opening_output}
+use Rattle.com_events.specs.declared.call.Call.{Call}
+use Rattle.com_events.specs.declared.call.Call.TheVariants as call
+use Rattle.com_events.specs.declared.call.StopReason.TheVariants as stop
+use Rattle.com_events.specs.declared.reply.Reply.{Reply}
+use Rattle.com_events.specs.declared.reply.Reply.TheVariants as reply
+use Rattle.com_msg.specs.declared.rest.Kind.TheVariants as kind
+use Rattle.com_msg.specs.declared.sending.Advance.TheVariants as advance
+use Rattle.com_msg.specs.declared.sending.Part.TheVariants as part
+use Rattle.cob_proc.specs.declared.tree.Advancing.{Advancing}
+use Rattle.cob_proc.specs.declared.tree.Condition.{Condition}
+use Rattle.cob_proc.specs.declared.tree.Indicator.TheVariants as indicators
+use Rattle.cob_proc.specs.declared.tree.Lines.TheVariants as lines
+use Rattle.cob_proc.specs.declared.tree.Repetition.TheVariants as repetitions
+use Rattle.cob_proc.specs.declared.tree.Simple.TheVariants as simples
+use Rattle.cob_proc.specs.declared.tree.Statement.{Statement, Add, If', Exit, Stop, Receive', Send}
+use Rattle.cob_meaning.specs.Layouts.{an_item, an_input, an_output, of_characters, of_digits, of_items}
+use Rattle.cob_meaning.specs.Meaning.{Stopped, Wants, Program, meaning, unit_limits}
+use Rattle.cob_meaning.proofs.Trees.{alone, a_numeral, by_item, by_number, equals, go_to, here, item, literal, move_to, name, of_item, paragraph, perform_thru, row, shape, spaces_word}
+
+-- SEND of an item with EMI
+abbrev pub sends_emi : List ℕ → List ℕ → Option Advancing → Statement
+sends_emi cd from advancing = Send (name cd) (Some (item from)) (Some (record { indicator = indicators.Emi; advancing = advancing }))
+
+-- RECEIVE of a message without NO DATA
+abbrev pub receives : List ℕ → List ℕ → Statement
+receives cd into = Receive' (name cd) false (item into) (shape []) (row [])
+
+-- the area of an input CD: the name of the queue, the moment, the source, the length and the end key
+abbrev pub in_area : List ℕ → List ℕ → List ℕ → List ℕ → List ℕ → List ℕ
+in_area queue moment source length key =
+    field_of queue ++ spaces 36 ++ moment ++ field_of source ++ length ++ key ++ codes "00000000"
+
+-- the area of an output CD of one destination
+abbrev pub out_area : List ℕ → List ℕ → List ℕ
+out_area length destination = codes "0001" ++ length ++ codes "000" ++ field_of destination
+
+abbrev pub moment : List ℕ
+moment = codes "74060110203000"
+
+abbrev pub echo : Program
+echo = record {
+  layout = record {
+    names =
+        (codes "BUF", an_item (record { area = 0; start = 0; width = 20; holding = of_characters; occurs = None }))
+        ∷ (codes "INQ", an_input 1)
+        ∷ (codes "IN-NAME", an_item (record { area = 1; start = 0; width = 12; holding = of_characters; occurs = None }))
+        ∷ (codes "IN-FROM", an_item (record { area = 1; start = 62; width = 12; holding = of_characters; occurs = None }))
+        ∷ (codes "IN-LEN", an_item (record { area = 1; start = 74; width = 4; holding = of_digits; occurs = None }))
+        ∷ (codes "OUTQ", an_output 2)
+        ∷ (codes "OUT-COUNT", an_item (record { area = 2; start = 0; width = 4; holding = of_digits; occurs = None }))
+        ∷ (codes "OUT-LEN", an_item (record { area = 2; start = 4; width = 4; holding = of_digits; occurs = None }))
+        ∷ (codes "OUT-TO", an_item (record { area = 2; start = 11; width = 12; holding = of_characters; occurs = None })) ∷ [];
+    opening = spaces 20 ∷ opening_area ∷ opening_output 1 ∷ [];
+    initial = None;
+  };
+  text =
+      paragraph (codes "FIRST-ONE") (move_to (literal (codes "Q1")) (item (codes "IN-NAME") ∷ []) ∷ move_to (a_numeral (codes "1")) (item (codes "OUT-COUNT") ∷ []) ∷ [])
+      ∷ paragraph (codes "NEXT-ONE")
+      (receives (codes "INQ") (codes "BUF") ∷ move_to (of_item (codes "IN-LEN")) (item (codes "OUT-LEN") ∷ [])
+      ∷ move_to (of_item (codes "IN-FROM")) (item (codes "OUT-TO") ∷ []) ∷ sends_emi (codes "OUTQ") (codes "BUF") None ∷ go_to (codes "NEXT-ONE") ∷ []) ∷ [];
+}
+
+-- its area before any message, and when T1 has sent HELLO
+abbrev pub before_hello : List ℕ
+before_hello = in_area (codes "Q1") (zeros 14) [] (codes "0000") (codes "0")
+
+abbrev pub hello : List ℕ
+hello = in_area (codes "Q1") moment (codes "T1") (codes "0005") (codes "2")
+
+abbrev pub echo_receives : List ℕ → Call
+echo_receives area = call.Receive area kind.Message 20 false
+
+abbrev pub to_t1 : List ℕ
+to_t1 = out_area (codes "0005") (codes "T1")
+
+abbrev pub echo_sends : Call
+echo_sends = call.Send to_t1 (part.Emi (advance.After 1)) (Some (codes "HELLO" ++ spaces 15))
+
+echo_begins : meaning echo None [] ≡ record { calls = []; ending = Wants (echo_receives before_hello) }
+unfolding unit_limits
+echo_begins = refl
+
+echo_hears : meaning echo None (reply.Given hello (codes "HELLO") ∷ []) ≡ record { calls = echo_receives before_hello ∷ []; ending = Wants echo_sends }
+unfolding unit_limits
+echo_hears = refl
+
+echo_answers : meaning echo None (reply.Given hello (codes "HELLO") ∷ reply.AreaOut to_t1 ∷ []) ≡ record { calls = echo_receives before_hello ∷ echo_sends ∷ []; ending = Wants (echo_receives hello) }
+unfolding unit_limits
+echo_answers = refl
+
+-- the branches of ORDERS
+abbrev leaves : List Statement
+leaves = go_to (codes "ONE-ORDER-END") ∷ []
+
+abbrev accepts : List Statement
+accepts = Add (by_item (codes "ORD-QTY")) (item (codes "TOTAL-QTY")) ∷ move_to (literal (codes "ACCEPTED")) (item (codes "REP-WORD") ∷ []) ∷ []
+
+abbrev rejects : List Statement
+rejects = move_to (literal (codes "REJECTED")) (item (codes "REP-WORD") ∷ []) ∷ []
+
+abbrev is_total : Condition
+is_total = alone (equals (of_item (codes "ORD-KIND")) (literal (codes "T")))
+
+abbrev orders : Program
+orders = record {
+  layout = record {
+    names =
+        (codes "TOTAL-QTY", an_item (record { area = 0; start = 0; width = 6; holding = of_digits; occurs = None }))
+        ∷ (codes "ORDER-REC", an_item (record { area = 1; start = 0; width = 18; holding = of_items; occurs = None }))
+        ∷ (codes "ORD-KIND", an_item (record { area = 1; start = 0; width = 1; holding = of_characters; occurs = None }))
+        ∷ (codes "ORD-NO", an_item (record { area = 1; start = 1; width = 4; holding = of_digits; occurs = None }))
+        ∷ (codes "ORD-ITEM", an_item (record { area = 1; start = 5; width = 10; holding = of_characters; occurs = None }))
+        ∷ (codes "ORD-QTY", an_item (record { area = 1; start = 15; width = 3; holding = of_digits; occurs = None }))
+        ∷ (codes "REPLY-REC", an_item (record { area = 2; start = 0; width = 13; holding = of_items; occurs = None }))
+        ∷ (codes "REP-WORD", an_item (record { area = 2; start = 0; width = 9; holding = of_characters; occurs = None }))
+        ∷ (codes "REP-NO", an_item (record { area = 2; start = 9; width = 4; holding = of_characters; occurs = None }))
+        ∷ (codes "TOTAL-REC", an_item (record { area = 3; start = 0; width = 12; holding = of_items; occurs = None }))
+        ∷ (codes "TOT-OUT", an_item (record { area = 3; start = 6; width = 6; holding = of_digits; occurs = None }))
+        ∷ (codes "ORDER-IN", an_input 4)
+        ∷ (codes "Q-NAME", an_item (record { area = 4; start = 0; width = 12; holding = of_characters; occurs = None }))
+        ∷ (codes "Q-SOURCE", an_item (record { area = 4; start = 62; width = 12; holding = of_characters; occurs = None }))
+        ∷ (codes "Q-STATUS", an_item (record { area = 4; start = 79; width = 2; holding = of_characters; occurs = None }))
+        ∷ (codes "REPLY-OUT", an_output 5)
+        ∷ (codes "R-COUNT", an_item (record { area = 5; start = 0; width = 4; holding = of_digits; occurs = None }))
+        ∷ (codes "R-LENGTH", an_item (record { area = 5; start = 4; width = 4; holding = of_digits; occurs = None }))
+        ∷ (codes "R-STATUS", an_item (record { area = 5; start = 8; width = 2; holding = of_characters; occurs = None }))
+        ∷ (codes "R-ERROR", an_item (record { area = 5; start = 10; width = 1; holding = of_characters; occurs = None }))
+        ∷ (codes "R-DEST", an_item (record { area = 5; start = 11; width = 12; holding = of_characters; occurs = None })) ∷ [];
+    opening = codes "000000" ∷ (codes " 0000" ++ spaces 10 ++ codes "000") ∷ spaces 13 ∷ codes "TOTAL 000000" ∷ opening_area ∷ opening_output 1 ∷ [];
+    initial = Some 4;
+  };
+  text =
+      paragraph (codes "MAIN-LINE")
+      (move_to (literal (codes "ORDERS")) (item (codes "Q-NAME") ∷ []) ∷ move_to (a_numeral (codes "1")) (item (codes "R-COUNT") ∷ []) ∷
+      perform_thru (codes "ONE-ORDER") (codes "ONE-ORDER-END") (repetitions.Until is_total) ∷ move_to (of_item (codes "TOTAL-QTY")) (item (codes "TOT-OUT") ∷ []) ∷
+      move_to (a_numeral (codes "12")) (item (codes "R-LENGTH") ∷ []) ∷ sends_emi (codes "REPLY-OUT") (codes "TOTAL-REC") None ∷ Stop ∷ [])
+      ∷ paragraph (codes "ONE-ORDER")
+      (move_to spaces_word (item (codes "ORDER-REC") ∷ []) ∷ receives (codes "ORDER-IN") (codes "ORDER-REC") ∷ move_to (of_item (codes "Q-SOURCE")) (item (codes "R-DEST") ∷ []) ∷
+      If' here is_total (shape leaves) (row leaves) (shape []) (row []) ∷ move_to (of_item (codes "ORD-NO")) (item (codes "REP-NO") ∷ []) ∷
+      If' here (alone (simples.Numeric (item (codes "ORD-QTY")) false)) (shape accepts) (row accepts) (shape rejects) (row rejects) ∷
+      move_to (a_numeral (codes "13")) (item (codes "R-LENGTH") ∷ []) ∷ sends_emi (codes "REPLY-OUT") (codes "REPLY-REC") (Some (record { after = true; lines = lines.Count (by_number (codes "1")) })) ∷ [])
+      ∷ paragraph (codes "ONE-ORDER-END") (Exit ∷ []) ∷ [];
+}
+
+-- what ORDERS is given: a message of this length and text from T1
+abbrev given : List ℕ → List ℕ → Reply
+given length text = reply.Given (in_area (codes "ORDERS") moment (codes "T1") length (codes "2")) text
+
+abbrev sent : List ℕ → Reply
+sent length = reply.AreaOut (out_area length (codes "T1"))
+
+abbrev receives_after : List ℕ → Call
+receives_after area = call.Receive area kind.Message 18 false
+
+abbrev sends : List ℕ → List ℕ → Call
+sends length text = call.Send (out_area length (codes "T1")) (part.Emi (advance.After 1)) (Some text)
+
+-- An order for 12 hammers, one whose number is bad, and the end: the first is accepted, the second is
+-- rejected, and the total is 12.
+orders_total : meaning orders None
+    (given (codes "0018") (codes "N0001HAMMER    012") ∷ sent (codes "0013")
+    ∷ given (codes "0018") (codes "N0002NAILS     1X0") ∷ sent (codes "0013")
+    ∷ given (codes "0001") (codes "T") ∷ sent (codes "0012") ∷ [])
+    ≡ record {
+      calls =
+          receives_after (in_area (codes "ORDERS") (zeros 14) [] (codes "0000") (codes "0"))
+          ∷ sends (codes "0013") (codes "ACCEPTED 0001")
+          ∷ receives_after (in_area (codes "ORDERS") moment (codes "T1") (codes "0018") (codes "2"))
+          ∷ sends (codes "0013") (codes "REJECTED 0002")
+          ∷ receives_after (in_area (codes "ORDERS") moment (codes "T1") (codes "0018") (codes "2"))
+          ∷ sends (codes "0012") (codes "TOTAL 000012") ∷ [];
+      ending = Stopped stop.Run;
+    }
+unfolding unit_limits
+orders_total = refl
+
+-- a message may end in the middle of an order, whose other characters are then spaces, and no number
+orders_short : meaning orders None (given (codes "0005") (codes "N0003") ∷ [])
+    ≡ record {
+      calls = receives_after (in_area (codes "ORDERS") (zeros 14) [] (codes "0000") (codes "0")) ∷ [];
+      ending = Wants (sends (codes "0013") (codes "REJECTED 0003"));
+    }
+unfolding unit_limits
+orders_short = refl
+
+-- a scheduled unit is told its queue, and then names it itself
+orders_named : meaning orders (Some (field_of (codes "OTHER") ++ spaces 36)) [] ≡ record { calls = []; ending = Wants (receives_after (in_area (codes "ORDERS") (zeros 14) [] (codes "0000") (codes "0"))) }
+unfolding unit_limits
+orders_named = refl

@@ -1,0 +1,10 @@
+pub mod Layouts
+pub mod Storage
+pub mod Moves
+pub mod Conditions
+pub mod Verbs
+pub mod Meaning
+pub mod Follows
+pub mod Laws
+pub mod Names
+pub mod Ranges

@@ -1,0 +1,17 @@
+//! What COBOL programs mean: which calls a program makes, given the replies.
+//!
+//! `specs/Meaning.antt` says it by recursion on the statement trees of cob_proc: `meaning` gives the calls that
+//! were answered, and then the reason for which the unit stops, or the call for which a reply is wanted.
+//! `specs/Follows.antt` says when the own entries of a unit are those of its program (`Follows`), and when they
+//! are so far (`SoFar`).
+//!
+//! These are definitions, on which no code stands yet, with their laws.
+#![tactic(auto)]
+
+mod laws;
+
+pub use laws::{
+    answered_calls_stay, calls_are_within_limits, each_call_takes_a_reply, follows_so_far,
+    fronts_are_of_the_program, more_bound_changes_nothing, more_replies_go_on,
+    replies_decide_calls,
+};
