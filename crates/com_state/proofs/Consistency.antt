@@ -87,7 +87,7 @@ unspent_with unit leaf rest (piece ∷ pieces) held e all =
     All-cons (λ (h : Held). 1 ≤ length h.rest.segments) (record { unit = unit; leaf = record { number = leaf }; rest = rest }) held (omega (arith, ap length e)) all
 
 -- what waits, without the first on a leaf
-sub_all : (P : Waiting → Type 0) (leaf : ℕ) (waiting : List Waiting) → All P waiting → All P (without_first leaf waiting)
+pub sub_all : (P : Waiting → Type 0) (leaf : ℕ) (waiting : List Waiting) → All P waiting → All P (without_first leaf waiting)
 sub_all P leaf [] all = all
 sub_all P leaf (w ∷ waiting) all =
     let behind : All P waiting = λ k d within. all (suc k) d (omega (arith, within)) in

@@ -17,7 +17,7 @@ mod Portioned
 mod Receives
 mod Refusals
 mod Stays
-mod StepCases
+pub mod StepCases
 mod Stepped
 mod Taken
 mod WorkedInputs
@@ -30,9 +30,13 @@ pub mod Runs
 pub mod Verbs
 pub mod Whole
 mod Fronts
+mod Longer
 mod Idling
 mod Owned
 mod Telling
 mod Settled
 mod Consistency
+mod Holding
+pub mod Doing
+mod NameFields
 mod Flags

@@ -8,3 +8,5 @@ pub mod Transcripts
 pub mod Laws
 pub mod Parties
 pub mod Reached
+pub mod Kept
+pub mod Inside

@@ -16,6 +16,7 @@ ghost use Rattle.std.specs.Prelude.{
   Some,
   None,
   is_some,
+  option_map,
   IsTrue,
 };
 ghost use Rattle.std.specs.List.{All};
@@ -152,6 +153,23 @@ pub fn a_run_is_legal()
     ensures { (net : NetOf) (calls : List (PartyOf × CallOf)) (history : List EntryOf)
         (last : SystemState) → run net calls ≡ Some (history, last) →
         (map call_made history ≡ calls) × LeadsTo (opening net) history last }
+{}
+
+/// One call more at the end of a run is one step more, from the state that the run leaves: the
+/// entry goes behind the history. Where it has no step, the calls have no run.
+pub fn a_run_goes_on_by_a_step()
+    ensures { (net : NetOf) (calls : List (PartyOf × CallOf)) (who : PartyOf) (call : CallOf)
+        (history : List EntryOf) (last : SystemState) → run net calls ≡ Some (history, last) →
+        run net (calls ++ (who, call) ∷ []) ≡ option_map (λ next. (
+          history ++ record { party = who; call = call; reply = next.0 } ∷ [],
+          next.1,
+        )) (step last who call) }
+{}
+
+/// Calls have no run where those at their front have none.
+pub fn no_calls_run_behind_such_as_do_not()
+    ensures { (net : NetOf) (front behind : List (PartyOf × CallOf)) → run net front ≡ None →
+        run net (front ++ behind) ≡ None }
 {}
 
 /// An idle system allows no call but STOP IDLE and END IDLE.

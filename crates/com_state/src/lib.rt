@@ -1,6 +1,18 @@
-//! The one-thread message control system: its definitions, and what holds of every step and history.
+//! The one-thread message control system: its definitions, what holds of every step and history, and
+//! [`State`], a value that does every call.
 //!
-//! A crate above cites the definitions and the laws, and opens no step:
+//! ```rust
+//! use com_state::State;
+//!
+//! let mut state = State::open(&net)?;
+//! if state.may(&party, &call) {
+//!     let reply = state.apply(&party, &call)?;
+//! }
+//! let nothing_can_happen = state.idle();
+//! ```
+//!
+//! A contract sees a `State` as a state of the definitions. A crate above cites these and the laws, and
+//! opens no step:
 //!
 //! ```rust
 //! ghost use Rattle.com_state.specs.State.{opening};
@@ -24,19 +36,21 @@
 //! - [`every_state_reached_is_consistent`] and [`entries_tell_of_their_party`] say what is known of a
 //!   state that a legal history leaves.
 //!
-//! The functions here do nothing; their contracts are the laws.
+//! The functions that stand alone do nothing; their contracts are the laws.
 #![tactic(auto)]
 
 mod laws;
 mod parties;
+mod state;
 
 pub use laws::{
     a_front_is_legal, a_legal_history_leaves_one_state, a_portion_is_no_longer_than_asked,
-    a_refusal_changes_the_status_alone, a_run_is_legal, a_step_is_determined,
-    a_step_is_one_entry_more, an_idle_system_only_stops_and_ends, entries_tell_of_their_party,
-    entries_tell_what_their_party_may_do, every_history_is_whole,
+    a_refusal_changes_the_status_alone, a_run_goes_on_by_a_step, a_run_is_legal,
+    a_step_is_determined, a_step_is_one_entry_more, an_idle_system_only_stops_and_ends,
+    entries_tell_of_their_party, entries_tell_what_their_party_may_do, every_history_is_whole,
     every_state_reached_is_consistent, no_call_is_left_at_the_end,
-    nothing_is_left_of_a_stopped_unit, others_are_left_by_a_stop, others_keep_their_rests,
-    shown_is_legal, step_keeps,
+    no_calls_run_behind_such_as_do_not, nothing_is_left_of_a_stopped_unit,
+    others_are_left_by_a_stop, others_keep_their_rests, shown_is_legal, step_keeps,
 };
 pub use parties::{MAX_ARRIVALS, MAX_VERBS, TerminalMode, TerminalState, UnitMode, UnitState};
+pub use state::State;

@@ -1,0 +1,15 @@
+use Rattle.std.proofs.Common.{ap, ◌∙◌}
+use Rattle.com_state.specs.declared.state.State.TheInside.{Inside}
+use Rattle.com_state.specs.Inside.{system}
+use Rattle.com_state.proofs.Doing.{names_chosen, no_names_chosen}
+use Rattle.com_state.proofs.state.State.names_of_choice.Goals as goal
+
+pub returns-in-Some : goal.returns-in-Some
+returns-in-Some c =
+    let entered = ap (λ (i : Inside). system i) c.self-inside.view_is ∙ c.self.view_is in
+    names_chosen entered c.args.node c.in-Some.leaf.number c.path.result c.fields_of.result c.in-Some.ensures.leaf c.path.ensures c.fields_of.ensures
+
+pub returns-in-None : goal.returns-in-None
+returns-in-None c =
+    let entered = ap (λ (i : Inside). system i) c.self-inside.view_is ∙ c.self.view_is in
+    no_names_chosen entered c.args.node c.in-None.ensures.leaf

@@ -1,0 +1,23 @@
+use Rattle.com_state.proofs.Holding.{numbered_after}
+use Rattle.com_state.proofs.state.State.take.Goals as goal
+
+pub invariant_of-self : goal.invariant_of-self
+invariant_of-self c =
+    let is = rw (← c.self-inside.view_is) at c.self.invariant in
+    let inside = c.self-inside.inside in
+    record {
+      system = record {
+        net = is.system.net;
+        tree = c.receive.ensures.tree;
+        leaves = is.system.leaves;
+        inputs = is.system.inputs;
+        units = is.system.units;
+        terminals = is.system.terminals;
+        counted = is.system.counted;
+        few = is.system.few;
+        numbered = numbered_after inside.0.1.1.1.1.1.0 inside.0.0.tree inside.0.1.0 c.args.unit c.args.area c.args.kind c.args.size c.receive.result c.receive.new.area c.receive.new.self
+            c.receive.ensures.received c.receive.ensures.err is.system.numbered;
+      };
+      destinations = is.destinations;
+      units = is.units;
+    }
