@@ -7,8 +7,9 @@
 //! to right: another token is wanted at the first one that is of none of the sorts that may come next. So
 //! of the form `GO [TO] p` with the tokens of `GO TO STOP`, the third is where a name is wanted.
 //!
-//! These are definitions in `specs`, on which no code stands yet. That the first of several faults does
-//! not depend on how they are grouped is a law, `first_of_both`.
+//! These are definitions in `specs`. Of code there is the cursor, which says what comes next and takes it
+//! from the front of some tokens. That the first of several faults does not depend on how they are grouped
+//! is a law, `first_of_both`.
 #![tactic(auto)]
 
 mod cursor;

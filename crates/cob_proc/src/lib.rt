@@ -1,7 +1,8 @@
-//! The Procedure Division of a program: what it is made of, and its forms.
+//! The Procedure Division of a program: what it is made of, its forms and its faults.
 //!
 //! `specs/Forms.antt` has the forms of the statements and conditions as lists of parts, by which `reading`
-//! of cob_forms says where another word or sign is wanted. No code reads a division yet.
+//! of cob_forms says where another word or sign is wanted. `specs/Spelled.antt` says which tokens spell
+//! which trees, and `specs/Faults.antt` which fault is the first. No code reads a division yet.
 #![tactic(auto)]
 
 mod tree;
