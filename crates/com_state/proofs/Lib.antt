@@ -6,7 +6,7 @@ mod Changes
 mod Changing
 mod Chosen
 mod Firsts
-mod Frames
+pub mod Frames
 mod Giving
 mod Going
 mod Kept
@@ -29,13 +29,13 @@ pub mod Portions
 pub mod Runs
 pub mod Verbs
 pub mod Whole
-mod Fronts
+pub mod Fronts
 mod Longer
 mod Idling
 mod Owned
-mod Telling
+pub mod Telling
 mod Settled
-mod Consistency
+pub mod Consistency
 mod Holding
 pub mod Doing
 mod NameFields

@@ -5,6 +5,7 @@ ghost use Rattle.com_msg.specs.Rendering.{IsRenderable};
 ghost use Rattle.com_send.specs.Outgoing.{transmitted_to};
 ghost use Rattle.com_state.specs.State.{opening, opening_unit, opening_terminal};
 ghost use Rattle.com_state.specs.Steps.{step};
+ghost use Rattle.com_state.specs.Kept.{IsSystem};
 
 mod allowed;
 mod one_party;
@@ -79,7 +80,8 @@ impl State {
 
     /// The network.
     pub fn net(&self) -> &Net
-        ensures { result.now ≡ self.now.net }
+        ensures net { result.now ≡ self.now.net }
+        ensures valid { IsSystem self.now }
     {
         &self.net
     }

@@ -28,7 +28,7 @@ use crate::parties::UnitMode;
 use crate::state::State;
 use com_cd::{InArea, OutArea};
 use com_events::{Call, Reply};
-use com_msg::{Kind, Part};
+use com_msg::{Kind, MAX_SIZE, Part};
 use com_text::{FIELD_LENGTH, MAX_NAMES, NamePath, Text};
 use com_tree::Node;
 use std::alloc::AllocError;
@@ -118,7 +118,7 @@ impl State {
         requires unit { unit < length self.old.units }
         requires may { IsTrue (is_some (unit_step self.old unit
             (made.Receive area.now kind size no_data))) }
-        requires size { (1 ≤ size) × (size ≤ 2000) }
+        requires size { (1 ≤ size) × (size ≤ MAX_SIZE) }
         ensures step { IfOk result (λ reply. unit_step self.old unit
             (made.Receive area.now kind size no_data) ≡ Some (reply, self.new)) }
         ensures err { OnErr result (self.new ≡ self.old) }

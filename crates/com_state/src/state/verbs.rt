@@ -31,7 +31,7 @@ ghost use Rattle.com_state.specs.Switches.{switch_input, set_between, is_key};
 use crate::state::State;
 use com_cd::{InArea, InField, OutArea, Status};
 use com_events::Reply;
-use com_msg::{Kind, Part};
+use com_msg::{Kind, MAX_SIZE, Part};
 use com_recv::{Taken, designated};
 use com_send::{Destination, is_key};
 use com_text::Text;
@@ -66,7 +66,7 @@ impl State {
         kind: Kind,
         size: u32,
     ) -> Result<Reply, AllocError>
-        requires { (1 ≤ size) × (size ≤ 2000) }
+        requires { (1 ≤ size) × (size ≤ MAX_SIZE) }
         ensures taken { IfOk result (λ reply. (reply, self.new) ≡ received self.old
             (receive self.old.net.tree self.old.incoming unit area kind size)) }
         ensures err { OnErr result (self.new ≡ self.old) }
