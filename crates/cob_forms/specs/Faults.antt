@@ -1,5 +1,5 @@
 -- The first of several faults, and where a token is wanted.
-use Rattle.std.specs.Prelude.{ℕ, zero, suc, ◌-◌, Bool, ◌&&◌, ◌||◌, ◌==◌, nat_lt, List, [], ◌∷◌, length, take, drop, Option, Some, None, if◌then◌else◌}
+use Rattle.std.specs.Prelude.{ℕ, zero, suc, ◌-◌, Bool, true, false, ◌&&◌, ◌||◌, ◌==◌, nat_lt, List, [], ◌∷◌, length, take, drop, Option, Some, None, if◌then◌else◌}
 use Rattle.cob_lex.specs.declared.fault.SourceFault.{SourceFault}
 use Rattle.cob_lex.specs.declared.fault.SourceKind.{SourceKind}
 use Rattle.cob_lex.specs.declared.fault.SourceKind.TheVariants as faults
@@ -40,6 +40,11 @@ first (x ∷ xs) = earlier (Some x) (first xs)
 
 abbrev pub fault : ℕ → ℕ → SourceKind → SourceFault
 fault line column kind = record { line = line; column = column; kind = kind }
+
+-- a fault at a token, where there is one
+abbrev pub noted : Bool → SourceKind → Token → List SourceFault
+noted true kind t = fault t.line t.column kind ∷ []
+noted false kind t = []
 
 -- a fault at the first of some tokens, or at line 1 column 1 where there is none
 abbrev pub at_first : SourceKind → List Token → SourceFault

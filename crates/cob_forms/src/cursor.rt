@@ -5,7 +5,7 @@ ghost use Rattle.cob_forms.specs.Readers.{Gives, begins, one, optional, read_lit
 
 use crate::Stop;
 use crate::reserved::is_reserved;
-use crate::written::{Literal, Name, Number, Position, characters_between};
+use crate::written::{Literal, Name, Number};
 use cob_lex::{Token, TokenKind};
 use std::alloc::Global;
 
@@ -107,11 +107,7 @@ pub fn take_name(tokens: &[Token]) -> Result<(Name, &[Token]), Stop>
     if let [token, rest @ ..] = tokens
         && is_name(token)
     {
-        let name = Name {
-            text: token.text.copy()?,
-            position: Position::of(token),
-        };
-        return Ok((name, rest));
+        return Ok((Name::of(token)?, rest));
     }
     Err(Stop::Wanted(tokens.len()))
 }
@@ -122,11 +118,7 @@ pub fn take_number(tokens: &[Token]) -> Result<(Number, &[Token]), Stop>
     ensures fewer { IfOk result (λ x. length x.1.now < length tokens.now) }
 {
     let (token, rest) = take_kind(tokens, TokenKind::Number)?;
-    let number = Number {
-        digits: token.text.copy()?,
-        position: Position::of(token),
-    };
-    Ok((number, rest))
+    Ok((Number::of(token)?, rest))
 }
 
 /// The next token, which has to be a literal, and the tokens behind it.
@@ -135,9 +127,5 @@ pub fn take_literal(alloc: Global, tokens: &[Token]) -> Result<(Literal, &[Token
     ensures fewer { IfOk result (λ x. length x.1.now < length tokens.now) }
 {
     let (token, rest) = take_kind(tokens, TokenKind::Literal)?;
-    let literal = Literal {
-        characters: characters_between(alloc, &token.text)?,
-        position: Position::of(token),
-    };
-    Ok((literal, rest))
+    Ok((Literal::of(alloc, token)?, rest))
 }

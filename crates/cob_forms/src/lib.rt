@@ -8,11 +8,12 @@
 //! of the form `GO [TO] p` with the tokens of `GO TO STOP`, the third is where a name is wanted.
 //!
 //! These are definitions in `specs`. Of code there is the cursor, which says what comes next and takes it
-//! from the front of some tokens. That the first of several faults does not depend on how they are grouped
+//! from the front of some tokens, and `first_of`, the first of two faults. That the first of several faults does not depend on how they are grouped
 //! is a law, `first_of_both`.
 #![tactic(auto)]
 
 mod cursor;
+mod faults;
 mod laws;
 mod reserved;
 mod stop;
@@ -22,6 +23,7 @@ pub use cursor::{
     is_kind, is_name, is_word, next_is_kind, next_is_name, next_is_word, skip_word, take_kind,
     take_literal, take_name, take_number, take_word,
 };
+pub use faults::{fault_at, first_of, first_with, is_before, noted};
 pub use laws::first_of_both;
 pub use reserved::is_reserved;
 pub use stop::Stop;

@@ -2,7 +2,7 @@
 ghost use Rattle.std.specs.Prelude.{◌≡◌, IfOk};
 ghost use Rattle.com_text.specs.Text.{IsText};
 ghost use Rattle.cob_lex.specs.Literals.{characters_of};
-ghost use Rattle.cob_forms.specs.Written.{between_marks, position_of};
+ghost use Rattle.cob_forms.specs.Written.{between_marks, literal_of, name_of, number_of, position_of};
 
 use cob_lex::Token;
 use com_text::Text;
@@ -34,11 +34,35 @@ pub struct Name {
     pub position: Position,
 }
 
+impl Name {
+    /// A token as a name.
+    pub fn of(token: &Token) -> Result<Name, AllocError>
+        ensures { IfOk result (λ name. name ≡ name_of token.now) }
+    {
+        Ok(Name {
+            text: token.text.copy()?,
+            position: Position::of(token),
+        })
+    }
+}
+
 /// A number, by its digits as they are written.
 #[derive(Debug, Drop)]
 pub struct Number {
     pub digits: Text,
     pub position: Position,
+}
+
+impl Number {
+    /// A token as a number.
+    pub fn of(token: &Token) -> Result<Number, AllocError>
+        ensures { IfOk result (λ number. number ≡ number_of token.now) }
+    {
+        Ok(Number {
+            digits: token.text.copy()?,
+            position: Position::of(token),
+        })
+    }
 }
 
 /// A literal, by the characters that it stands for, without its quotation marks.
@@ -48,8 +72,20 @@ pub struct Literal {
     pub position: Position,
 }
 
+impl Literal {
+    /// A token as a literal.
+    pub fn of(alloc: Global, token: &Token) -> Result<Literal, AllocError>
+        ensures { IfOk result (λ literal. literal ≡ literal_of token.now) }
+    {
+        Ok(Literal {
+            characters: characters_between(alloc, &token.text)?,
+            position: Position::of(token),
+        })
+    }
+}
+
 /// The characters that a literal stands for, by its text with the quotation marks.
-pub(crate) fn characters_between(alloc: Global, text: &Text) -> Result<Text, AllocError>
+fn characters_between(alloc: Global, text: &Text) -> Result<Text, AllocError>
     ensures { IfOk result (λ characters. characters ≡ characters_of (between_marks text.now)) }
 {
     let bytes = text.as_bytes();
