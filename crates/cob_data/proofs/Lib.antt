@@ -1,5 +1,11 @@
+pub mod ReadParts
+pub mod PictureLaws
+pub mod EntryLaws
+pub mod NumeralLaws
+pub mod ItemLaws
+pub mod HeaderLaws
 mod Sources
 mod WorkedSources
 mod WorkedFaults
 mod WorkedDivisions
-mod OneDivision
+pub mod OneDivision

@@ -1,18 +1,14 @@
 -- Worked divisions: what the tokens of programs say, with the storage of their items, worked out by hand.
-use Rattle.std.proofs.Common.{◌≡◌, ℕ, List, [], ◌∷◌, ◌++◌, Option, Some, None, refl, codes}
-use Rattle.std.specs.Prelude.{replicate}
+use Rattle.std.proofs.Common.{◌≡◌, ℕ, List, [], ◌∷◌, Option, Some, None, refl, codes, arith}
 use Rattle.cob_lex.specs.declared.token.Token.{Token}
 use Rattle.cob_lex.specs.Fronts.{front_of}
 use Rattle.cob_lex.specs.Lexing.{lines_tokens, text_tokens, tokens_of}
-use Rattle.cob_forms.specs.declared.written.Literal.{Literal}
 use Rattle.cob_forms.specs.declared.written.Name.{Name}
 use Rattle.cob_forms.specs.declared.written.Number.{Number}
 use Rattle.cob_forms.specs.declared.written.Position.{Position}
 use Rattle.cob_forms.specs.Forms.{next, reading}
 use Rattle.cob_lex.proofs.Programs.{echo, leaver, orders, source}
-use Rattle.cob_data.specs.declared.tree.CdBody.{CdBody}
 use Rattle.cob_data.specs.declared.tree.CdBody.TheVariants as bodies
-use Rattle.cob_data.specs.declared.tree.CdEntry.{CdEntry}
 use Rattle.cob_data.specs.declared.tree.DataDivision.{DataDivision}
 use Rattle.cob_data.specs.declared.tree.InputClause.{InputClause}
 use Rattle.cob_data.specs.declared.tree.InputField.{InputField}
@@ -20,14 +16,13 @@ use Rattle.cob_data.specs.declared.tree.InputField.TheVariants as fields
 use Rattle.cob_data.specs.declared.tree.Item.{Item}
 use Rattle.cob_data.specs.declared.tree.ItemSort.{ItemSort}
 use Rattle.cob_data.specs.declared.tree.ItemSort.TheVariants.{Characters, Digits, Group}
-use Rattle.cob_data.specs.declared.tree.OutputClause.{OutputClause}
 use Rattle.cob_data.specs.declared.tree.OutputClause.TheVariants as clauses
 use Rattle.cob_data.specs.declared.tree.Picture.{Picture}
 use Rattle.cob_data.specs.declared.tree.ItemPlace.{ItemPlace}
 use Rattle.cob_data.specs.declared.tree.Value.{Value}
-use Rattle.cob_data.specs.declared.tree.Value.TheVariants as values
+use Rattle.cob_data.specs.Clauses.{input_field_of, output_field_of}
 use Rattle.cob_data.specs.Divisions.{IsDivisionOf, working_storage_of, communication_of}
-use Rattle.cob_data.specs.Layout.{Referent, data_at, input_cd, output_cd, Declared, declared, referent_of, opening_storage, initial_area}
+use Rattle.cob_data.specs.Layout.{data_at, input_cd, output_cd, declared, referent_of, opening_storage, initial_area}
 use Rattle.cob_data.proofs.Sources.{tokens_in, items, entries}
 
 abbrev position : ℕ → ℕ → Position
@@ -92,10 +87,11 @@ echo_division = record {
       }) ∷ [];
 }
 
-echo_is_told : IsDivisionOf (tokens_in (tokens_of echo)) echo_division
-unfolding lines_tokens text_tokens front_of next reading
+echo_is_told : IsDivisionOf (tokens_in (tokens_of echo)) 55 echo_division
+unfolding lines_tokens text_tokens front_of next reading input_field_of output_field_of
 echo_is_told = record {
   complete = refl;
+  within = omega arith;
   program = refl;
   source_computer = refl;
   object_computer = refl;
@@ -126,7 +122,7 @@ orders_names : declared (division_in orders) ≡
     (codes "R-STATUS", data_at (stored 5 8 2 Characters) None) ∷
     (codes "R-ERROR", data_at (stored 5 10 1 Characters) None) ∷
     (codes "R-DEST", data_at (stored 5 11 12 Characters) None) ∷ []
-unfolding lines_tokens text_tokens front_of next reading
+unfolding lines_tokens text_tokens front_of next reading input_field_of output_field_of
 orders_names = refl
 
 -- the areas of a program as they begin
@@ -137,32 +133,32 @@ orders_opening : opening_storage (division_in orders) ≡
     codes "TOTAL 000000" ∷
     codes "                                                00000000000000            0000000000000" ∷
     codes "00000000000            " ∷ []
-unfolding lines_tokens text_tokens front_of next reading
+unfolding lines_tokens text_tokens front_of next reading input_field_of output_field_of
 orders_opening = refl
 
 -- the CD that is INITIAL
 orders_initial : initial_area (division_in orders) ≡ Some 4
-unfolding lines_tokens text_tokens front_of next reading
+unfolding lines_tokens text_tokens front_of next reading input_field_of output_field_of
 orders_initial = refl
 
 -- and none
 echo_initial : initial_area (division_in echo) ≡ None
-unfolding lines_tokens text_tokens front_of next reading
+unfolding lines_tokens text_tokens front_of next reading input_field_of output_field_of
 echo_initial = refl
 
 -- a program without data
 leaver_storage : opening_storage (division_in leaver) ≡ []
-unfolding lines_tokens text_tokens front_of next reading
+unfolding lines_tokens text_tokens front_of next reading input_field_of output_field_of
 leaver_storage = refl
 
 -- what a name stands for
 name_of_a_cd : referent_of (division_in echo) (codes "OUTQ") ≡ Some (output_cd 2 1)
-unfolding lines_tokens text_tokens front_of next reading
+unfolding lines_tokens text_tokens front_of next reading input_field_of output_field_of
 name_of_a_cd = refl
 
 -- and a word that is no name
 name_of_none : referent_of (division_in echo) (codes "FIRST-ONE") ≡ None
-unfolding lines_tokens text_tokens front_of next reading
+unfolding lines_tokens text_tokens front_of next reading input_field_of output_field_of
 name_of_none = refl
 
 -- the eleven names in the order of the area
@@ -178,7 +174,7 @@ listed_names : declared (division_in (entries (codes "       CD  C INPUT A B FIL
     (codes "I", data_at (stored 0 78 1 Characters) None) ∷
     (codes "J", data_at (stored 0 79 2 Characters) None) ∷
     (codes "K", data_at (stored 0 81 6 Digits) None) ∷ []
-unfolding lines_tokens text_tokens front_of next reading
+unfolding lines_tokens text_tokens front_of next reading input_field_of output_field_of
 listed_names = refl
 
 -- and by clauses, with the same layout
@@ -194,7 +190,7 @@ claused_names : declared (division_in (entries (codes "       CD  C INPUT QUEUE 
     (codes "I", data_at (stored 0 78 1 Characters) None) ∷
     (codes "J", data_at (stored 0 79 2 Characters) None) ∷
     (codes "K", data_at (stored 0 81 6 Digits) None) ∷ []
-unfolding lines_tokens text_tokens front_of next reading
+unfolding lines_tokens text_tokens front_of next reading input_field_of output_field_of
 claused_names = refl
 
 -- a table of destinations
@@ -202,13 +198,13 @@ table_names : declared (division_in (entries (codes "       CD  C OUTPUT ERROR K
     (codes "C", output_cd 0 3) ∷
     (codes "E", data_at (stored 0 10 1 Characters) (Some 3)) ∷
     (codes "D", data_at (stored 0 11 12 Characters) (Some 3)) ∷ []
-unfolding lines_tokens text_tokens front_of next reading
+unfolding lines_tokens text_tokens front_of next reading input_field_of output_field_of
 table_names = refl
 
 -- as it begins
 table_opening : opening_storage (division_in (entries (codes "       CD  C OUTPUT DESTINATION TABLE OCCURS 2." ∷ []))) ≡
     codes "00000000000            0            " ∷ []
-unfolding lines_tokens text_tokens front_of next reading
+unfolding lines_tokens text_tokens front_of next reading input_field_of output_field_of
 table_opening = refl
 
 -- records over a CD have its area, each from its beginning
@@ -220,7 +216,7 @@ records_over_areas : declared (division_in (entries (codes "       CD  C OUTPUT.
     (codes "S", data_at (stored 0 0 23 Characters) None) ∷
     (codes "D", input_cd 1) ∷
     (codes "T", data_at (stored 1 0 87 Characters) None) ∷ []
-unfolding lines_tokens text_tokens front_of next reading
+unfolding lines_tokens text_tokens front_of next reading input_field_of output_field_of
 records_over_areas = refl
 
 -- a group has the characters of all items below it
@@ -231,7 +227,7 @@ groups_in_groups : declared (division_in (items (codes "       01  A." ∷ codes
     (codes "D", data_at (stored 0 2 3 Digits) None) ∷
     (codes "E", data_at (stored 0 5 1 Characters) None) ∷
     (codes "F", data_at (stored 1 0 1 Characters) None) ∷ []
-unfolding lines_tokens text_tokens front_of next reading
+unfolding lines_tokens text_tokens front_of next reading input_field_of output_field_of
 groups_in_groups = refl
 
 -- values are filled
@@ -239,5 +235,5 @@ values_filled : opening_storage (division_in (items (codes "       01  A." ∷ c
     codes "A  00700" ∷
     codes "  " ∷
     codes "\" " ∷ []
-unfolding lines_tokens text_tokens front_of next reading
+unfolding lines_tokens text_tokens front_of next reading input_field_of output_field_of
 values_filled = refl

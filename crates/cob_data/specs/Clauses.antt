@@ -1,13 +1,13 @@
 -- The clauses of a CD entry, and the fields that they name.
-use Rattle.std.specs.Prelude.{ℕ, ◌+◌, ◌*◌, Bool, true, false, not, ◌&&◌, ◌||◌, if◌then◌else◌, List, [], ◌∷◌, ◌++◌, map, find, codes, bytes_eq, Option, Some, None, option_map}
-use Rattle.std.specs.List.{list_any}
-use Rattle.com_text.specs.Digits.{number}
+use Rattle.std.specs.Prelude.{ℕ, ◌+◌, ◌*◌, Bool, true, false, not, ◌&&◌, ◌||◌, if◌then◌else◌, List, [], ◌∷◌, find, codes, Option, Some, None, option_map}
+use Rattle.cob_data.specs.Numerals.{numeral}
 use Rattle.cob_lex.specs.declared.token.Token.{Token}
 use Rattle.cob_lex.specs.declared.token.TokenKind.TheVariants as tokens
-use Rattle.cob_forms.specs.Sorts.{Sort, reserved, name, of_kind, is}
+use Rattle.cob_forms.specs.Sorts.{reserved, name, of_kind, is}
+use Rattle.cob_forms.specs.Readers.{begins}
 use Rattle.cob_data.specs.declared.tree.InputField.{InputField}
 use Rattle.cob_data.specs.declared.tree.InputField.TheVariants as fields
-use Rattle.cob_data.specs.Entries.{put, all_but_last, has, behind}
+use Rattle.cob_data.specs.Entries.{pieces, all_but_last, has, behind}
 
 abbrev pub is_input : List Token → Bool
 is_input entry = has (codes "INPUT") entry
@@ -24,22 +24,17 @@ abbrev pub lists_names : List Token → Bool
 lists_names [] = false
 lists_names (t ∷ ts) = is_name_or_filler t
 
-abbrev pub is_followed_by : List ℕ → List Token → Bool
-is_followed_by word [] = false
-is_followed_by word (t ∷ ts) = is (reserved word) t
-
 -- a clause ends with its name, or with the number of a table and its TIMES
 abbrev pub ends_clause : Token → List Token → Bool
 ends_clause t ts =
-    is name t || is (reserved (codes "TIMES")) t || (is (of_kind tokens.Number) t && not (is_followed_by (codes "TIMES") ts))
-
-abbrev pub cut : List Token → List (List Token)
-cut [] = []
-cut (t ∷ ts) = put (ends_clause t ts) t (cut ts)
+    is name t || is (reserved (codes "TIMES")) t || (is (of_kind tokens.Number) t && not (begins (is (reserved (codes "TIMES"))) ts))
 
 -- the clauses behind which a further token stands
+abbrev pub all_clauses : List Token → List (List Token)
+all_clauses body = all_but_last (pieces ends_clause body)
+
 abbrev pub clauses_of : List Token → List (List Token)
-clauses_of entry = if lists_names (body_of entry) then [] else all_but_last (cut (body_of entry))
+clauses_of entry = if lists_names (body_of entry) then [] else all_clauses (body_of entry)
 
 -- The words by which the fields of an input CD are told apart, and those of an output CD. The first of them
 -- that stands in a clause is the clause's.
@@ -62,6 +57,13 @@ output_words =
 abbrev pub told_by : {A : Type 0} → List (List ℕ × A) → List Token → Option (List ℕ × A)
 told_by words clause = find (λ row. has row.0 clause) words
 
+-- the field that a clause is for
+unfoldable pub input_field_of : List Token → Option InputField
+input_field_of clause = option_map (λ row. row.1) (told_by input_words clause)
+
+unfoldable pub output_field_of : List Token → Option OutputField
+output_field_of clause = option_map (λ row. row.1) (told_by output_words clause)
+
 abbrev pub word_of_row : {A : Type 0} → Option (List ℕ × A) → List ℕ
 word_of_row None = []
 word_of_row (Some row) = row.0
@@ -75,7 +77,7 @@ number_in ts = find (is (of_kind tokens.Number)) ts
 
 -- how often the destinations of an output CD occur, and how long the area of a CD is
 abbrev pub occurrences : List Token → Option ℕ
-occurrences entry = option_map (λ t. number t.text) (number_in entry)
+occurrences entry = option_map (λ t. numeral t.text) (number_in entry)
 
 abbrev pub or_one : Option ℕ → ℕ
 or_one None = 1

@@ -1,14 +1,13 @@
 -- What tokens say of a program: its divisions up to the word PROCEDURE.
-use Rattle.std.specs.Prelude.{◌≡◌, ℕ, ◌+◌, Bool, true, false, not, ◌&&◌, ◌||◌, nat_lt, if◌then◌else◌, List, [], ◌∷◌, ◌++◌, length, map, filter, find, codes, flat_map, Option, Some, None, option_map}
+use Rattle.std.specs.Prelude.{◌≡◌, ◌<◌, ℕ, ◌+◌, Bool, true, false, ◌||◌, if◌then◌else◌, List, [], ◌∷◌, ◌++◌, length, take, drop, map, filter, find, codes, flat_map, slice_get, Option, Some, None, option_map}
 use Rattle.cob_lex.specs.declared.token.Token.{Token}
 use Rattle.cob_lex.specs.declared.token.TokenKind.{TokenKind}
 use Rattle.cob_lex.specs.declared.token.TokenKind.TheVariants as tokens
 use Rattle.cob_forms.specs.declared.written.Name.{Name}
 use Rattle.cob_forms.specs.declared.written.Position.{Position}
-use Rattle.cob_forms.specs.Sorts.{Sort, reserved, name, of_kind, is}
+use Rattle.cob_forms.specs.Sorts.{reserved, name, is}
 use Rattle.cob_forms.specs.Written.{position_of, name_of, number_of, literal_of}
-use Rattle.cob_forms.specs.Faults.{wanted_word}
-use Rattle.cob_forms.specs.Forms.{reading}
+use Rattle.cob_forms.specs.Forms.{ends, reading}
 use Rattle.cob_data.specs.declared.tree.CdBody.{CdBody}
 use Rattle.cob_data.specs.declared.tree.CdBody.TheVariants as bodies
 use Rattle.cob_data.specs.declared.tree.CdEntry.{CdEntry}
@@ -24,7 +23,7 @@ use Rattle.cob_data.specs.declared.tree.Value.{Value}
 use Rattle.cob_data.specs.declared.tree.Value.TheVariants as values
 use Rattle.cob_data.specs.Forms.{data_division, rows_of}
 use Rattle.cob_data.specs.Entries.{Run, told, entries_of, runs_of, storage_items, cd_runs, first_token, second_token, last_token, chosen_word, picture_in, value_in}
-use Rattle.cob_data.specs.Clauses.{OutputField, destination_count, text_length, status_key, destination_table, error_key, destination, number_in, is_input, body_of, lists_names, is_name_or_filler, clauses_of, input_words, output_words, told_by}
+use Rattle.cob_data.specs.Clauses.{OutputField, destination_count, text_length, status_key, destination_table, error_key, destination, number_in, is_input, body_of, lists_names, is_name_or_filler, clauses_of, input_field_of, output_field_of}
 use Rattle.cob_data.specs.Levels.{own_size, sort_of_item, length_of, records_of}
 
 -- a name, and none for FILLER
@@ -81,13 +80,13 @@ abbrev pub storage_records : List Run → List (List (List Token))
 storage_records runs = records_of (storage_items runs)
 
 -- the clauses of an input CD, and those of an output CD
-abbrev pub input_clause : Option (List ℕ × InputField) → Option Token → Option Token → List InputClause
-input_clause (Some row) (Some first) (Some named) =
-    record { position = position_of first; field = row.1; name = name_of named } ∷ []
-input_clause told first named = []
+abbrev pub input_clause : Option InputField → Option Token → Option Token → List InputClause
+input_clause (Some field) (Some first) (Some named) =
+    record { position = position_of first; field = field; name = name_of named } ∷ []
+input_clause field first named = []
 
 abbrev pub input_clauses : List (List Token) → List InputClause
-input_clauses list = flat_map (λ clause. input_clause (told_by input_words clause) (first_token clause) (last_token clause)) list
+input_clauses list = flat_map (λ clause. input_clause (input_field_of clause) (first_token clause) (last_token clause)) list
 
 abbrev pub output_clause_by : OutputField → Token → Token → Option Token → List OutputClause
 output_clause_by destination_count first named occurs = clauses.DestinationCount (position_of first) (name_of named) ∷ []
@@ -98,12 +97,12 @@ output_clause_by destination_table first named None = []
 output_clause_by error_key first named occurs = clauses.ErrorKey (position_of first) (name_of named) ∷ []
 output_clause_by destination first named occurs = clauses.Destination (position_of first) (name_of named) ∷ []
 
-abbrev pub output_clause : Option (List ℕ × OutputField) → Option Token → Option Token → Option Token → List OutputClause
-output_clause (Some row) (Some first) (Some named) occurs = output_clause_by row.1 first named occurs
-output_clause told first named occurs = []
+abbrev pub output_clause : Option OutputField → Option Token → Option Token → Option Token → List OutputClause
+output_clause (Some field) (Some first) (Some named) occurs = output_clause_by field first named occurs
+output_clause field first named occurs = []
 
 abbrev pub output_clauses : List (List Token) → List OutputClause
-output_clauses list = flat_map (λ clause. output_clause (told_by output_words clause) (first_token clause) (last_token clause) (number_in clause)) list
+output_clauses list = flat_map (λ clause. output_clause (output_field_of clause) (first_token clause) (last_token clause) (number_in clause)) list
 
 -- where INITIAL stands
 abbrev pub initial_of : List Token → Option Position
@@ -137,11 +136,21 @@ communication_of ts = cds_from (length (storage_records (runs_of ts))) (cd_runs 
 abbrev pub word_behind : List ℕ → List Token → Option Name
 word_behind header ts = option_map name_of (chosen_word header (told false (entries_of ts)))
 
--- these tokens are those of a program whose divisions up to the word PROCEDURE are these
-pub record IsDivisionOf (ts : List Token) (d : DataDivision) : Type 0 where
-  pub complete : wanted_word ts (reading rows_of data_division ts) ≡ None
-  pub program : word_behind (codes "PROGRAM-ID") ts ≡ Some d.program
-  pub source_computer : word_behind (codes "SOURCE-COMPUTER") ts ≡ d.source_computer
-  pub object_computer : word_behind (codes "OBJECT-COMPUTER") ts ≡ d.object_computer
-  pub working_storage : working_storage_of ts ≡ d.working_storage
-  pub communication : communication_of ts ≡ d.communication
+-- what the tokens before the word PROCEDURE tell, with the one that names the program
+pub record IsTold (named : Token) (before : List Token) (d : DataDivision) : Type 0 where
+  pub program : d.program ≡ name_of named
+  pub source_computer : d.source_computer ≡ word_behind (codes "SOURCE-COMPUTER") before
+  pub object_computer : d.object_computer ≡ word_behind (codes "OBJECT-COMPUTER") before
+  pub working_storage : d.working_storage ≡ working_storage_of before
+  pub communication : d.communication ≡ communication_of before
+
+-- Of these tokens, so many stand before the word PROCEDURE, with no other one wanted up to it, and they tell
+-- these divisions. The sixth token, behind IDENTIFICATION DIVISION. PROGRAM-ID., is the program's name.
+pub record IsDivisionOf (ts : List Token) (place : ℕ) (d : DataDivision) : Type 0 where
+  pub complete : reading rows_of data_division ts ≡ ends (drop (place + 1) ts)
+  pub within : place < length ts
+  pub program : option_map name_of (slice_get ts 5) ≡ Some d.program
+  pub source_computer : word_behind (codes "SOURCE-COMPUTER") (take place ts) ≡ d.source_computer
+  pub object_computer : word_behind (codes "OBJECT-COMPUTER") (take place ts) ≡ d.object_computer
+  pub working_storage : working_storage_of (take place ts) ≡ d.working_storage
+  pub communication : communication_of (take place ts) ≡ d.communication

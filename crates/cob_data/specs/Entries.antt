@@ -1,9 +1,9 @@
 -- The entries of a text, each up to its period, and what the tokens of an entry are by where they stand.
-use Rattle.std.specs.Prelude.{ℕ, ◌-◌, Bool, true, false, not, ◌&&◌, if◌then◌else◌, List, [], ◌∷◌, ◌++◌, length, take, map, filter, codes, find, Option, Some, None}
+use Rattle.std.specs.Prelude.{ℕ, suc, ◌-◌, Bool, true, false, not, ◌&&◌, if◌then◌else◌, List, [], ◌∷◌, length, take, map, filter, codes, find, slice_get, Option, None}
 use Rattle.std.specs.List.{list_any}
 use Rattle.cob_lex.specs.declared.token.Token.{Token}
 use Rattle.cob_lex.specs.declared.token.TokenKind.TheVariants as tokens
-use Rattle.cob_forms.specs.Sorts.{Sort, reserved, name, of_kind, is}
+use Rattle.cob_forms.specs.Sorts.{reserved, of_kind, is}
 use Rattle.cob_data.specs.Forms.{period}
 
 -- a token at the front of the first of some lists, or by itself in a list before them
@@ -12,10 +12,22 @@ put true t lists = (t ∷ []) ∷ lists
 put false t [] = (t ∷ []) ∷ []
 put false t (ts ∷ lists) = (t ∷ ts) ∷ lists
 
+-- The pieces of a text, each up to a token that ends it by what is behind it. The last one may lack it.
+abbrev pub pieces : (Token → List Token → Bool) → List Token → List (List Token)
+pieces ends [] = []
+pieces ends (t ∷ ts) = put (ends t ts) t (pieces ends ts)
+
+-- how many tokens the first piece has
+abbrev pub piece_length : (Token → List Token → Bool) → List Token → ℕ
+piece_length ends [] = 0
+piece_length ends (t ∷ ts) = if ends t ts then 1 else suc (piece_length ends ts)
+
 -- The entries of a text: a header, an item or a CD entry up to its period. The last one may lack it.
+abbrev pub ends_entry : Token → List Token → Bool
+ends_entry t ts = is period t
+
 abbrev pub entries_of : List Token → List (List Token)
-entries_of [] = []
-entries_of (t ∷ ts) = put (is period t) t (entries_of ts)
+entries_of ts = pieces ends_entry ts
 
 abbrev pub all_but_last : {A : Type 0} → List A → List A
 all_but_last list = take (length list - 1) list
@@ -39,17 +51,13 @@ abbrev pub described : List Token → List (List Token)
 described ts = map (λ x. x.1) (filter (λ x. not x.0) (told false (entries_of ts)))
 
 abbrev pub first_token : List Token → Option Token
-first_token [] = None
-first_token (t ∷ ts) = Some t
+first_token ts = slice_get ts 0
 
 abbrev pub second_token : List Token → Option Token
-second_token [] = None
-second_token (t ∷ ts) = first_token ts
+second_token ts = slice_get ts 1
 
 abbrev pub last_token : List Token → Option Token
-last_token [] = None
-last_token (t ∷ []) = Some t
-last_token (t ∷ u ∷ ts) = last_token (u ∷ ts)
+last_token ts = slice_get ts (length ts - 1)
 
 -- the word behind a header
 abbrev pub chosen_word : List ℕ → List (Bool × List Token) → Option Token

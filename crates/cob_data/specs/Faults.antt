@@ -1,17 +1,17 @@
 -- The faults of the divisions before the Procedure Division.
-use Rattle.std.specs.Prelude.{ℕ, zero, suc, ◌+◌, ◌-◌, Bool, true, false, not, ◌&&◌, ◌||◌, ◌==◌, nat_le, nat_lt, if◌then◌else◌, List, [], ◌∷◌, ◌++◌, length, take, drop, sum, map, filter, flat_map, find, codes, bytes_eq, is_none, Option, Some, None, option_to_list}
+use Rattle.std.specs.Prelude.{ℕ, ◌+◌, Bool, true, false, not, ◌&&◌, ◌||◌, ◌==◌, nat_le, nat_lt, if◌then◌else◌, List, [], ◌∷◌, ◌++◌, length, take, drop, sum, map, filter, flat_map, codes, bytes_eq, is_none, Option, Some, None, option_to_list}
 use Rattle.std.specs.List.{list_any}
-use Rattle.com_text.specs.Digits.{number}
+use Rattle.cob_data.specs.Numerals.{numeral}
 use Rattle.cob_lex.specs.declared.fault.SourceFault.{SourceFault}
 use Rattle.cob_lex.specs.declared.fault.SourceKind.{SourceKind}
 use Rattle.cob_lex.specs.declared.fault.SourceKind.TheVariants as faults
 use Rattle.cob_lex.specs.declared.token.Token.{Token}
 use Rattle.cob_lex.specs.declared.token.TokenKind.TheVariants as tokens
-use Rattle.cob_forms.specs.Sorts.{Sort, reserved, name, of_kind, is}
+use Rattle.cob_forms.specs.Sorts.{reserved, name, of_kind, is}
 use Rattle.cob_forms.specs.Forms.{Reading, reading}
 use Rattle.cob_forms.specs.Faults.{fault, first, wanted_word, counting}
 use Rattle.cob_data.specs.declared.tree.ItemSort.{ItemSort}
-use Rattle.cob_data.specs.declared.tree.ItemSort.TheVariants.{Characters, Digits, Group}
+use Rattle.cob_data.specs.declared.tree.ItemSort.TheVariants.{Characters, Digits}
 use Rattle.cob_data.specs.declared.tree.Value.{Value}
 use Rattle.cob_data.specs.declared.tree.Value.TheVariants as values
 use Rattle.cob_data.specs.Forms.{data_division, rows_of}
@@ -96,7 +96,7 @@ second_initials entries = at_any faults.TwoInitial (drop 1 (filter (is (reserved
 abbrev pub bad_tables : List (List Token) → List SourceFault
 bad_tables entries =
     at_any faults.OverLimit (filter
-    (λ t. is (of_kind tokens.Number) t && not (nat_le 1 (number t.text) && nat_le (number t.text) 8)) (flat_map (λ e. e) (filter is_cd entries)))
+    (λ t. is (of_kind tokens.Number) t && not (nat_le 1 (numeral t.text) && nat_le (numeral t.text) 8)) (flat_map (λ e. e) (filter is_cd entries)))
 
 -- CLAUSES
 
@@ -131,7 +131,7 @@ first_text (t ∷ ts) = t.text
 -- under a group whose items all have this level.
 abbrev pub is_level_right : Bool → List (List Token) → List Token → Bool
 is_level_right over_cd before item =
-    is_level (first_text item) && not (over_cd && number (first_text item) == 77)
+    is_level (first_text item) && not (over_cd && numeral (first_text item) == 77)
     && (rank item == 1 || is_under_group (rank item) None before)
 
 abbrev pub level_faults : Bool → List (List Token) → List (List Token) → List SourceFault
@@ -145,7 +145,7 @@ level_faults over_cd before (item ∷ items) =
 abbrev pub is_group_right : ℕ → List Token → Bool
 is_group_right behind item =
     not (is_group (sort_of_item item))
-    || (not (number (first_text item) == 77 || number (first_text item) == 49) && nat_lt (rank item) behind)
+    || (not (numeral (first_text item) == 77 || numeral (first_text item) == 49) && nat_lt (rank item) behind)
 
 abbrev pub up_to : ℕ → ℕ → Option SourceKind
 up_to limit n = if nat_le n limit then None else Some faults.WrongLength

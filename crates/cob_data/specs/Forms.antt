@@ -101,12 +101,15 @@ rows_of destination_clause =
 rows_of word_is = (reserved (codes "IS"), []) ∷ []
 rows_of word_times = (reserved (codes "TIMES"), []) ∷ []
 
--- the divisions from the first token to the word PROCEDURE
-abbrev pub data_division : List (Part Form)
-data_division =
+-- the divisions up to the word PROCEDURE
+abbrev pub before_procedure : List (Part Form)
+before_procedure =
     the (codes "IDENTIFICATION") ∷ the (codes "DIVISION") ∷ token period
     ∷ the (codes "PROGRAM-ID") ∷ token period ∷ token any_word ∷ token period
     ∷ maybe environment
     ∷ the (codes "DATA") ∷ the (codes "DIVISION") ∷ token period
-    ∷ maybe working_storage ∷ maybe communication
-    ∷ the (codes "PROCEDURE") ∷ []
+    ∷ maybe working_storage ∷ maybe communication ∷ []
+
+-- the divisions from the first token to the word PROCEDURE
+abbrev pub data_division : List (Part Form)
+data_division = before_procedure ++ the (codes "PROCEDURE") ∷ []

@@ -1,5 +1,5 @@
 -- What the names of a program stand for, and how its storage begins.
-use Rattle.std.specs.Prelude.{ℕ, ◌+◌, ◌-◌, ◌*◌, Bool, true, false, not, ◌==◌, if◌then◌else◌, List, [], ◌∷◌, ◌++◌, length, map, zip, flat_map, filter_map, find, bytes_eq, Option, Some, None, option_map}
+use Rattle.std.specs.Prelude.{ℕ, ◌-◌, Bool, true, false, ◌==◌, List, [], ◌∷◌, ◌++◌, length, map, zip, flat_map, filter_map, find, bytes_eq, Option, Some, None, option_map}
 use Rattle.com_text.specs.Name.{spaces}
 use Rattle.com_text.specs.Digits.{number}
 use Rattle.com_cd.specs.InputArea.{start_of, width_of, zeros, opening_area}
@@ -14,7 +14,6 @@ use Rattle.cob_data.specs.declared.tree.CdBody.{CdBody}
 use Rattle.cob_data.specs.declared.tree.CdBody.TheVariants as bodies
 use Rattle.cob_data.specs.declared.tree.CdEntry.{CdEntry}
 use Rattle.cob_data.specs.declared.tree.DataDivision.{DataDivision}
-use Rattle.cob_data.specs.declared.tree.InputClause.{InputClause}
 use Rattle.cob_data.specs.declared.tree.InputField.{InputField}
 use Rattle.cob_data.specs.declared.tree.InputField.TheVariants as fields
 use Rattle.cob_data.specs.declared.tree.Item.{Item}

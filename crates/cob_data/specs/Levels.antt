@@ -1,6 +1,6 @@
 -- Levels, and the sizes of items.
-use Rattle.std.specs.Prelude.{ℕ, zero, ◌+◌, Bool, true, false, not, ◌&&◌, ◌||◌, ◌==◌, nat_le, nat_lt, if◌then◌else◌, List, [], ◌∷◌, length, sum, map, take_while, Option, Some, None, unwrap_or}
-use Rattle.com_text.specs.Digits.{number}
+use Rattle.std.specs.Prelude.{ℕ, ◌+◌, Bool, true, false, ◌&&◌, ◌||◌, ◌==◌, nat_le, nat_lt, if◌then◌else◌, List, [], ◌∷◌, length, sum, map, take_while, Option, Some, None, unwrap_or}
+use Rattle.cob_data.specs.Numerals.{numeral}
 use Rattle.cob_lex.specs.declared.token.Token.{Token}
 use Rattle.cob_data.specs.declared.tree.ItemSort.{ItemSort}
 use Rattle.cob_data.specs.declared.tree.ItemSort.TheVariants.{Characters, Digits, Group}
@@ -9,11 +9,11 @@ use Rattle.cob_data.specs.Pictures.{size_of, sort_of}
 
 -- 01 to 49 or 77, with or without the leading zero
 abbrev pub is_level : List ℕ → Bool
-is_level digits = nat_le (length digits) 2 && ((nat_le 1 (number digits) && nat_le (number digits) 49) || number digits == 77)
+is_level digits = nat_le (length digits) 2 && ((nat_le 1 (numeral digits) && nat_le (numeral digits) 49) || numeral digits == 77)
 
 -- the number of a level; 77 ranks as 01
 abbrev pub rank_of : List ℕ → ℕ
-rank_of digits = if number digits == 77 then 1 else number digits
+rank_of digits = if numeral digits == 77 then 1 else numeral digits
 
 abbrev pub first_rank : List Token → ℕ
 first_rank [] = 0

@@ -1,8 +1,13 @@
 pub mod Forms
+pub mod Stops
+pub mod Numerals
 pub mod Entries
 pub mod Clauses
+pub mod Tables
 pub mod Pictures
 pub mod Levels
+pub mod Measured
 pub mod Divisions
 pub mod Layout
 pub mod Faults
+pub mod Answers

@@ -1,5 +1,5 @@
 -- Pictures: how many characters they describe, and of which sort.
-use Rattle.std.specs.Prelude.{ℕ, zero, suc, ◌+◌, Bool, true, false, not, ◌&&◌, ◌==◌, nat_le, if◌then◌else◌, List, [], ◌∷◌, length, drop, take_while, Option, Some, None, option_map}
+use Rattle.std.specs.Prelude.{ℕ, zero, suc, ◌+◌, Bool, false, ◌&&◌, ◌==◌, nat_le, if◌then◌else◌, List, [], ◌∷◌, length, drop, take_while, Option, Some, None, option_map}
 use Rattle.com_text.specs.Name.{is_digit}
 use Rattle.com_text.specs.Digits.{number}
 use Rattle.cob_data.specs.declared.tree.ItemSort.{ItemSort}

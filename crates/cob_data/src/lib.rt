@@ -1,5 +1,5 @@
-//! The divisions before the Procedure Division of a program: what they are made of, and what tokens say
-//! of them.
+//! The divisions before the Procedure Division of a program: what they are made of, what tokens say of
+//! them, and reading them.
 //!
 //! - `specs/Forms.antt` has the forms of the headers, items and CD entries as lists of parts, by which
 //!   `reading` of cob_forms says where another word or sign is wanted.
@@ -8,12 +8,33 @@
 //! - `specs/Layout.antt` says what the names stand for and how storage begins.
 //! - `specs/Faults.antt` says which faults tokens have, and which of them is told.
 //!
-//! No code reads a division yet. That tokens tell one division is a law, `tokens_have_one_division`.
+//! [`data_division`] reads the tokens by tables of the forms (`grammar.rt`), which takes no memory and
+//! tells where another word is wanted, and then takes each entry apart by what stands in it. It looks for
+//! no other fault yet. That tokens tell one division is a law, `tokens_have_one_division`.
+//!
+//! ```rust
+//! let tokens = lex(alloc, source)?;
+//! let (division, place) = data_division(alloc, tokens.as_slice())?;
+//! ```
+//!
+//! Of a source with `01 A.`, `02 B PIC X(2).` and `02 C PIC 9(3).` the items are A with five characters from
+//! 0, B with two from 0 and C with three from 2, all in area 0. Before its word PROCEDURE stand `place`
+//! tokens.
 #![tactic(auto)]
 
+mod cds;
+mod division;
+mod entries;
+mod entry;
+mod grammar;
+mod items;
 mod laws;
+mod pictures;
+mod reader;
+mod runs;
 mod tree;
 
+pub use division::data_division;
 pub use laws::tokens_have_one_division;
 pub use tree::{
     CdBody, CdEntry, DataDivision, InputClause, InputField, Item, ItemPlace, ItemSort,

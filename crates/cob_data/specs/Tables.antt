@@ -1,0 +1,68 @@
+-- What the tables of the code say, as the forms of the definitions.
+use Rattle.std.specs.Prelude.{List, map}
+use Rattle.cob_forms.specs.Sorts.{Sort, reserved, name, any_word, of_kind}
+use Rattle.cob_forms.specs.Forms.{Part, token, form, maybe, more}
+use Rattle.cob_data.specs.declared.grammar.Sort.{Sort as TableSort}
+use Rattle.cob_data.specs.declared.grammar.Sort.TheVariants as sorts
+use Rattle.cob_data.specs.declared.grammar.Form.{Form as TableForm}
+use Rattle.cob_data.specs.declared.grammar.Form.TheVariants as forms
+use Rattle.cob_data.specs.declared.grammar.Part.{Part as TablePart}
+use Rattle.cob_data.specs.declared.grammar.Part.TheVariants as parts
+use Rattle.cob_data.specs.declared.grammar.Row.{Row}
+use Rattle.cob_data.specs.declared.cds.OutputField.{OutputField as TableField}
+use Rattle.cob_data.specs.declared.cds.OutputField.TheVariants as fields
+use Rattle.cob_data.specs.Clauses as clauses
+use Rattle.cob_data.specs.Forms as all
+
+abbrev pub sort_of : TableSort → Sort
+sort_of (sorts.Reserved word) = reserved word.now
+sort_of sorts.Name = name
+sort_of sorts.AnyWord = any_word
+sort_of (sorts.Kind kind) = of_kind kind
+
+abbrev pub form_of : TableForm → all.Form
+form_of forms.Environment = all.environment
+form_of forms.Configuration = all.configuration
+form_of forms.SourceComputer = all.source_computer
+form_of forms.ObjectComputer = all.object_computer
+form_of forms.WorkingStorage = all.working_storage
+form_of forms.Communication = all.communication
+form_of forms.Item = all.item
+form_of forms.NameOrFiller = all.name_or_filler
+form_of forms.Clauses = all.clauses
+form_of forms.BehindPicture = all.behind_picture
+form_of forms.BehindValue = all.behind_value
+form_of forms.Value = all.value
+form_of forms.CdEntry = all.cd_entry
+form_of forms.CdUse = all.cd_use
+form_of forms.Direction = all.direction
+form_of forms.InputBody = all.input_body
+form_of forms.InputClause = all.in_clause
+form_of forms.SymbolicField = all.symbolic_field
+form_of forms.MessageField = all.message_field
+form_of forms.OutputBody = all.output_body
+form_of forms.OutputClause = all.out_clause
+form_of forms.DestinationClause = all.destination_clause
+form_of forms.WordIs = all.word_is
+form_of forms.WordTimes = all.word_times
+
+abbrev pub part_of : TablePart → Part all.Form
+part_of (parts.Token sort) = token (sort_of sort)
+part_of (parts.Form f) = form (form_of f)
+part_of (parts.Maybe f) = maybe (form_of f)
+part_of (parts.More f) = more (form_of f)
+
+abbrev pub parts_of : List TablePart → List (Part all.Form)
+parts_of parts = map part_of parts
+
+abbrev pub row_of : Row → Sort × List (Part all.Form)
+row_of row = (sort_of row.0, parts_of row.1.now)
+
+-- the fields by which clauses of an output CD are told apart
+abbrev pub kind_of_field : TableField → clauses.OutputField
+kind_of_field fields.DestinationCount = clauses.destination_count
+kind_of_field fields.TextLength = clauses.text_length
+kind_of_field fields.StatusKey = clauses.status_key
+kind_of_field fields.DestinationTable = clauses.destination_table
+kind_of_field fields.ErrorKey = clauses.error_key
+kind_of_field fields.Destination = clauses.destination

@@ -1,0 +1,376 @@
+//! The bodies of CD entries.
+ghost use Rattle.std.specs.Prelude.{◌≡◌, ◌≤◌, ◌++◌, ℕ, List, [], ◌∷◌, IfOk, MatchOption, filter, find, length, map, option_map, option_to_list};
+ghost use Rattle.cob_data.specs.Entries.{first_token, has, last_token, piece_length};
+ghost use Rattle.cob_data.specs.Clauses.{all_clauses, body_of, clauses_of, ends_clause, input_field_of, is_input, is_name_or_filler, lists_names, number_in, output_field_of};
+ghost use Rattle.cob_data.specs.Divisions.{body_by, initial_of, input_clause, input_clauses, name_if, output_clause, output_clause_by, output_clauses};
+ghost use Rattle.cob_data.specs.Tables.{kind_of_field};
+ghost use Rattle.cob_data.specs.declared.tree.InputField.{InputField};
+
+use crate::{CdBody, InputClause, InputField, OutputClause};
+use cob_forms::{Name, Number, Position, is_kind, is_name, is_word, next_is_word};
+use cob_lex::{Token, TokenKind};
+use com_text::Rows;
+use std::alloc::{AllocError, Global};
+use std::marker::Model;
+
+/// The words by which the clauses of an input CD are told apart. The first of them that stands in a
+/// clause is the clause's.
+const INPUT_WORDS: [(&[u8], InputField); 11] = [
+    (b"QUEUE", InputField::Queue),
+    (b"SUB-QUEUE-1", InputField::SubQueue1),
+    (b"SUB-QUEUE-2", InputField::SubQueue2),
+    (b"SUB-QUEUE-3", InputField::SubQueue3),
+    (b"DATE", InputField::MessageDate),
+    (b"TIME", InputField::MessageTime),
+    (b"SOURCE", InputField::Source),
+    (b"LENGTH", InputField::TextLength),
+    (b"END", InputField::EndKey),
+    (b"STATUS", InputField::StatusKey),
+    (b"COUNT", InputField::MessageCount),
+];
+
+/// The fields of an output CD.
+#[derive(Clone, Copy)]
+pub(crate) enum OutputField {
+    DestinationCount,
+    TextLength,
+    StatusKey,
+    DestinationTable,
+    ErrorKey,
+    Destination,
+}
+
+/// The words by which the clauses of an output CD are told apart, likewise.
+const OUTPUT_WORDS: [(&[u8], OutputField); 6] = [
+    (b"COUNT", OutputField::DestinationCount),
+    (b"LENGTH", OutputField::TextLength),
+    (b"STATUS", OutputField::StatusKey),
+    (b"TABLE", OutputField::DestinationTable),
+    (b"ERROR", OutputField::ErrorKey),
+    (b"DESTINATION", OutputField::Destination),
+];
+
+/// Whether this reserved word stands in an entry or a clause.
+fn has(tokens: &[Token], word: &[u8]) -> bool
+    ensures { result ≡ has word.now tokens.now }
+{
+    tokens.iter().any(|token| is_word(token, word))
+}
+
+/// Whether a CD entry is for input.
+pub(crate) fn is_input(entry: &[Token]) -> bool
+    ensures { result ≡ is_input entry.now }
+{
+    has(entry, b"INPUT")
+}
+
+/// What stands behind INPUT or OUTPUT.
+fn body_of(entry: &[Token]) -> &[Token]
+    ensures { result.now ≡ body_of entry.now }
+{
+    let mut rest = entry;
+    'tokens: while let Some((token, behind)) = rest.split_first() {
+        rest = behind;
+        if is_word(token, b"INPUT") || is_word(token, b"OUTPUT") {
+            return rest;
+        }
+    }
+    rest
+}
+
+/// Whether a token is a name or FILLER.
+fn is_name_or_filler(token: &Token) -> bool
+    ensures { result ≡ is_name_or_filler token.now }
+{
+    is_name(token) || is_word(token, b"FILLER")
+}
+
+/// Whether names stand in place of clauses.
+fn lists_names(body: &[Token]) -> bool
+    ensures { result ≡ lists_names body.now }
+{
+    match body {
+        [token, ..] => is_name_or_filler(token),
+        [] => false,
+    }
+}
+
+/// Whether a clause ends with a token, by what is behind it.
+fn ends_clause(token: &Token, behind: &[Token]) -> bool
+    ensures { result ≡ ends_clause token.now behind.now }
+{
+    is_name(token)
+        || is_word(token, b"TIMES")
+        || is_kind(token, TokenKind::Number) && !next_is_word(behind, b"TIMES")
+}
+
+/// How many tokens the first clause has.
+fn clause_length(tokens: &[Token]) -> usize
+    ensures length { result ≡ piece_length ends_clause tokens.now }
+    ensures within { result ≤ length tokens.now }
+{
+    let mut count = 0;
+    let mut rest = tokens;
+    'tokens: while let Some((token, behind)) = rest.split_first() {
+        count += 1;
+        if ends_clause(token, behind) {
+            return count;
+        }
+        rest = behind;
+    }
+    count
+}
+
+/// The clauses that are left, those behind which a further token stands.
+#[derive(Drop)]
+struct Clauses<'a> {
+    rest: &'a [Token],
+}
+
+impl<'a> Model for Clauses<'a> {
+    ghost use Rattle.std.specs.Prelude.{List};
+    ghost use Rattle.cob_lex.specs.declared.token.Token.{Token};
+    ghost use Rattle.cob_data.specs.Clauses.{all_clauses};
+
+    ghost Value = { List (List Token) };
+
+    ghost view = { λ clauses. all_clauses clauses.rest.now };
+}
+
+impl<'a> Clauses<'a> {
+    fn of(body: &'a [Token]) -> Clauses<'a>
+        ensures { result ≡ all_clauses body.now }
+    {
+        Clauses { rest: body }
+    }
+
+    /// The next clause.
+    fn next(&mut self) -> Option<&'a [Token]>
+        ensures { MatchOption result ((self.old ≡ []) × (self.new ≡ [])) (λ clause. self.old ≡ clause.now ∷ self.new) }
+    {
+        let (clause, rest) = self.rest.split_at(clause_length(self.rest));
+        self.rest = rest;
+        if rest.is_empty() {
+            return None;
+        }
+        Some(clause)
+    }
+}
+
+/// The field that a clause of an input CD is for.
+#[tactic(auto, unfolding(crate::specs::Clauses::input_field_of))]
+fn input_field(clause: &[Token]) -> Option<InputField>
+    ensures { result ≡ input_field_of clause.now }
+{
+    first_told(&INPUT_WORDS, clause)
+}
+
+/// The field of the first row whose word stands in a clause.
+fn first_told(rows: &[(&[u8], InputField)], clause: &[Token]) -> Option<InputField>
+    ensures { result ≡ option_map {T = List ℕ × InputField} (λ row. row.1) (find (λ row. has row.0 clause.now) (map (λ row. (row.0.now, row.1)) rows.now)) }
+{
+    'rows: for row in rows {
+        if has(clause, row.0) {
+            return Some(row.1);
+        }
+    }
+    None
+}
+
+/// The field that a clause of an output CD is for.
+#[tactic(auto, unfolding(crate::specs::Clauses::output_field_of))]
+fn output_field(clause: &[Token]) -> Option<OutputField>
+    ensures { option_map kind_of_field result ≡ output_field_of clause.now }
+{
+    'rows: for row in &OUTPUT_WORDS {
+        if has(clause, row.0) {
+            return Some(row.1);
+        }
+    }
+    None
+}
+
+/// The clauses of a CD entry that has no names in their place.
+fn clauses_of(entry: &[Token]) -> Clauses
+    ensures { result ≡ clauses_of entry.now }
+{
+    let body = body_of(entry);
+    if lists_names(body) {
+        Clauses::of(&[])
+    } else {
+        Clauses::of(body)
+    }
+}
+
+/// The number in a clause.
+fn number_in(clause: &[Token]) -> Option<&Token>
+    ensures { option_map (λ token. token.now) result ≡ number_in clause.now }
+{
+    clause
+        .iter()
+        .find(|token| is_kind(token, TokenKind::Number))
+}
+
+/// The clauses of an input CD.
+fn input_clauses(alloc: Global, entry: &[Token]) -> Result<Vec<InputClause>, AllocError>
+    ensures { IfOk result (λ list. list.items ≡ input_clauses (clauses_of entry.now)) }
+{
+    let mut list = Vec::new(alloc);
+    let mut clauses = clauses_of(entry);
+    'clauses: while let Some(clause) = clauses.next() {
+        put_input_clause(clause, &mut list)?;
+    }
+    Ok(list)
+}
+
+/// Adds a clause of an input CD.
+fn put_input_clause(clause: &[Token], list: &mut Vec<InputClause>) -> Result<(), AllocError>
+    ensures { IfOk result (λ _. list.new.items ≡ list.old.items ++ input_clause (input_field_of clause.now) (first_token clause.now) (last_token clause.now)) }
+{
+    let Some(field) = input_field(clause) else {
+        return Ok(());
+    };
+    let Some(first) = clause.first() else {
+        return Ok(());
+    };
+    let Some(named) = clause.last() else {
+        return Ok(());
+    };
+    list.push(InputClause {
+        position: Position::of(first),
+        field,
+        name: Name::of(named)?,
+    })?;
+    Ok(())
+}
+
+/// The clauses of an output CD.
+fn output_clauses(alloc: Global, entry: &[Token]) -> Result<Vec<OutputClause>, AllocError>
+    ensures { IfOk result (λ list. list.items ≡ output_clauses (clauses_of entry.now)) }
+{
+    let mut list = Vec::new(alloc);
+    let mut clauses = clauses_of(entry);
+    'clauses: while let Some(clause) = clauses.next() {
+        put_output_clause(clause, &mut list)?;
+    }
+    Ok(list)
+}
+
+/// Adds a clause of an output CD.
+fn put_output_clause(clause: &[Token], list: &mut Vec<OutputClause>) -> Result<(), AllocError>
+    ensures { IfOk result (λ _. list.new.items ≡ list.old.items ++ output_clause (output_field_of clause.now) (first_token clause.now) (last_token clause.now) (number_in clause.now)) }
+{
+    let Some(field) = output_field(clause) else {
+        return Ok(());
+    };
+    let Some(first) = clause.first() else {
+        return Ok(());
+    };
+    let Some(named) = clause.last() else {
+        return Ok(());
+    };
+    if let Some(clause) = output_clause(field, first, named, clause)? {
+        list.push(clause)?;
+    }
+    Ok(())
+}
+
+/// A clause of an output CD, by its field.
+fn output_clause(
+    field: OutputField,
+    first: &Token,
+    named: &Token,
+    clause: &[Token],
+) -> Result<Option<OutputClause>, AllocError>
+    ensures { IfOk result (λ found. option_to_list found ≡ output_clause_by (kind_of_field field) first.now named.now (number_in clause.now)) }
+{
+    let position = Position::of(first);
+    let found = match field {
+        OutputField::DestinationCount => OutputClause::DestinationCount {
+            position,
+            name: Name::of(named)?,
+        },
+        OutputField::TextLength => OutputClause::TextLength {
+            position,
+            name: Name::of(named)?,
+        },
+        OutputField::StatusKey => OutputClause::StatusKey {
+            position,
+            name: Name::of(named)?,
+        },
+        OutputField::DestinationTable => match number_in(clause) {
+            Some(number) => OutputClause::Table {
+                position,
+                occurs: Number::of(number)?,
+            },
+            None => return Ok(None),
+        },
+        OutputField::ErrorKey => OutputClause::ErrorKey {
+            position,
+            name: Name::of(named)?,
+        },
+        OutputField::Destination => OutputClause::Destination {
+            position,
+            name: Name::of(named)?,
+        },
+    };
+    Ok(Some(found))
+}
+
+/// A name, and none for FILLER.
+pub(crate) fn name_if(token: &Token) -> Result<Option<Name>, AllocError>
+    ensures { IfOk result (λ name. name ≡ name_if token.now) }
+{
+    if is_name(token) {
+        Ok(Some(Name::of(token)?))
+    } else {
+        Ok(None)
+    }
+}
+
+/// The names and FILLERs of a CD entry.
+fn names_of(alloc: Global, body: &[Token]) -> Result<Vec<Option<Name>>, AllocError>
+    ensures { IfOk result (λ list. list.items ≡ map name_if (filter is_name_or_filler body.now)) }
+{
+    let mut list = Vec::new(alloc);
+    'tokens: for token in body {
+        if is_name_or_filler(token) {
+            list.push(name_if(token)?)?;
+        }
+    }
+    Ok(list)
+}
+
+/// Where INITIAL stands in a CD entry.
+fn initial_of(entry: &[Token]) -> Option<Position>
+    ensures { result ≡ initial_of entry.now }
+{
+    match entry.iter().find(|token| is_word(token, b"INITIAL")) {
+        Some(token) => Some(Position::of(token)),
+        None => None,
+    }
+}
+
+/// The body of a CD entry.
+pub(crate) fn cd_body(alloc: Global, entry: &[Token]) -> Result<CdBody, AllocError>
+    ensures { IfOk result (λ body. body ≡ body_by (is_input entry.now) (lists_names (body_of entry.now)) entry.now) }
+{
+    let body = body_of(entry);
+    if !is_input(entry) {
+        return Ok(CdBody::Output {
+            clauses: Rows::of_vec(output_clauses(alloc, entry)?),
+        });
+    }
+    let initial = initial_of(entry);
+    if lists_names(body) {
+        Ok(CdBody::InputNames {
+            initial,
+            names: Rows::of_vec(names_of(alloc, body)?),
+        })
+    } else {
+        Ok(CdBody::Input {
+            initial,
+            clauses: Rows::of_vec(input_clauses(alloc, entry)?),
+        })
+    }
+}

@@ -1,0 +1,111 @@
+//! The entries of the divisions, each up to its period, taken from the front.
+ghost use Rattle.std.specs.Prelude.{◌≡◌, ◌≤◌, ◌&&◌, [], ◌∷◌, MatchOption, false, length, not};
+ghost use Rattle.cob_forms.specs.Sorts.{is};
+ghost use Rattle.cob_data.specs.Entries.{ends_entry, entries_of, is_cd, is_item, leads, piece_length, told, wants_word};
+ghost use Rattle.cob_data.specs.Forms.{period};
+
+use cob_forms::{is_kind, is_word};
+use cob_lex::{Token, TokenKind};
+use std::marker::Model;
+
+/// The entries that are left, each with whether it is the word that a program chooses behind a header
+/// such as PROGRAM-ID.
+#[derive(Drop)]
+pub(crate) struct Entries<'a> {
+    is_word: bool,
+    rest: &'a [Token],
+}
+
+impl<'a> Model for Entries<'a> {
+    ghost use Rattle.std.specs.Prelude.{Bool, List};
+    ghost use Rattle.cob_lex.specs.declared.token.Token.{Token};
+    ghost use Rattle.cob_data.specs.Entries.{entries_of, told};
+
+    ghost Value = { List (Bool × List Token) };
+
+    ghost view = { λ entries. told entries.is_word (entries_of entries.rest.now) };
+}
+
+impl<'a> Entries<'a> {
+    /// All entries of some tokens.
+    pub(crate) fn of(tokens: &'a [Token]) -> Entries<'a>
+        ensures { result ≡ told false (entries_of tokens.now) }
+    {
+        Entries {
+            is_word: false,
+            rest: tokens,
+        }
+    }
+
+    /// The next entry.
+    pub(crate) fn next(&mut self) -> Option<(bool, &'a [Token])>
+        ensures { MatchOption result ((self.old ≡ []) × (self.new ≡ [])) (λ x. self.old ≡ (x.0, x.1.now) ∷ self.new) }
+    {
+        if self.rest.is_empty() {
+            return None;
+        }
+        let (entry, rest) = self.rest.split_at(entry_length(self.rest));
+        let is_word = self.is_word;
+        self.is_word = awaits_word(is_word, entry);
+        self.rest = rest;
+        Some((is_word, entry))
+    }
+}
+
+/// How many tokens the first entry has.
+fn entry_length(tokens: &[Token]) -> usize
+    ensures length { result ≡ piece_length ends_entry tokens.now }
+    ensures within { result ≤ length tokens.now }
+{
+    let mut count = 0;
+    'tokens: for token in tokens {
+        count += 1;
+        if is_kind(token, TokenKind::Period) {
+            return count;
+        }
+    }
+    count
+}
+
+/// Whether an entry begins with this reserved word.
+pub(crate) fn leads(entry: &[Token], word: &[u8]) -> bool
+    ensures { result ≡ leads word.now entry.now }
+{
+    match entry {
+        [token, ..] => is_word(token, word),
+        [] => false,
+    }
+}
+
+/// Whether the program chooses a word behind an entry.
+fn wants_word(entry: &[Token]) -> bool
+    ensures { result ≡ wants_word entry.now }
+{
+    leads(entry, b"PROGRAM-ID")
+        || leads(entry, b"SOURCE-COMPUTER")
+        || leads(entry, b"OBJECT-COMPUTER")
+}
+
+/// Whether the program chooses a word behind an entry, which may be such a word itself.
+fn awaits_word(is_word: bool, entry: &[Token]) -> bool
+    ensures { result ≡ (not is_word && wants_word entry.now) }
+{
+    !is_word && wants_word(entry)
+}
+
+/// Whether an entry is an item.
+pub(crate) fn is_item(entry: &[Token]) -> bool
+    ensures { result ≡ is_item entry.now }
+{
+    match entry {
+        [token, ..] => is_kind(token, TokenKind::Number),
+        [] => false,
+    }
+}
+
+/// Whether an entry is that of a CD.
+pub(crate) fn is_cd(entry: &[Token]) -> bool
+    ensures { result ≡ is_cd entry.now }
+{
+    leads(entry, b"CD")
+}
