@@ -7,14 +7,9 @@ use Rattle.cob_lex.specs.declared.fault.SourceKind.TheVariants as faults
 use Rattle.cob_lex.specs.declared.token.Token.{Token}
 use Rattle.cob_forms.specs.Sorts.{is, name, reserved}
 use Rattle.cob_forms.specs.Forms.{Reading, reading, starts}
-use Rattle.cob_forms.specs.Faults.{counting, fault, first, wanted_word}
+use Rattle.cob_forms.specs.Faults.{counting, first, noted, wanted_word}
 use Rattle.cob_forms.specs.Readers.{begins}
 use Rattle.cob_proc.specs.Forms.{constant_rows, relation_rows, period, procedure_division, rows_of}
-
--- a fault at a token, where there is one
-abbrev pub noted : Bool → SourceKind → Token → List SourceFault
-noted true kind t = fault t.line t.column kind ∷ []
-noted false kind t = []
 
 -- whether a token names a paragraph: it is a name behind a period
 abbrev pub names_paragraph : Option Token → Token → Bool
@@ -41,10 +36,20 @@ abbrev pub bad_columns : Option Token → List Token → List SourceFault
 bad_columns before [] = []
 bad_columns before (t ∷ ts) = noted (not (stands_well before t)) faults.BadColumn t ++ bad_columns (Some t) ts
 
+-- the fault of the token that comes next
+abbrev pub column_behind : Token → List Token → List SourceFault
+column_behind before [] = []
+column_behind before (t ∷ ts) = noted (not (stands_well (Some before) t)) faults.BadColumn t
+
 -- the tokens that name paragraphs, in order
 abbrev pub paragraph_names : Option Token → List Token → List Token
 paragraph_names before [] = []
 paragraph_names before (t ∷ ts) = if names_paragraph before t then t ∷ paragraph_names (Some t) ts else paragraph_names (Some t) ts
+
+-- the token that comes next, where it names a paragraph
+abbrev pub name_behind : Token → List Token → List Token
+name_behind before [] = []
+name_behind before (t ∷ ts) = if names_paragraph (Some before) t then t ∷ [] else []
 
 -- paragraphs whose name stands before
 abbrev pub named_again : List (List ℕ) → List Token → List SourceFault
