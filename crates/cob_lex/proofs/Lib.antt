@@ -1,7 +1,7 @@
 pub mod Programs
-mod Written
+pub mod Written
 mod WorkedSources
-mod WorkedPrograms
+pub mod WorkedPrograms
 pub mod Runs
 pub mod FirstLines
 pub mod LiteralSizes

@@ -1,11 +1,14 @@
 -- The tokens of whole programs.
 use Rattle.std.proofs.Common.{◌≡◌, ℕ, List, [], ◌∷◌, ◌++◌, Ok, refl, codes}
+use Rattle.cob_lex.specs.declared.token.Token.{Token}
 use Rattle.cob_lex.specs.Fronts.{front_of}
 use Rattle.cob_lex.specs.Lexing.{tokens_of, lines_tokens, text_tokens}
 use Rattle.cob_lex.proofs.Programs.{echo, leaver, orders}
 use Rattle.cob_lex.proofs.Written.{on, word, number, literal, picture, period, equal}
 
-echo_tokens : tokens_of echo ≡ Ok (
+-- the tokens of ECHO
+abbrev pub echo_list : List Token
+echo_list =
     on 1 0 (word 8 (codes "IDENTIFICATION") ∷ word 23 (codes "DIVISION") ∷ period 31 (codes ".") ∷ []) ++
     on 2 32 (word 8 (codes "PROGRAM-ID") ∷ period 18 (codes ".") ∷ word 20 (codes "ECHO") ∷ period 24 (codes ".") ∷ []) ++
     on 3 57 (word 8 (codes "DATA") ∷ word 13 (codes "DIVISION") ∷ period 21 (codes ".") ∷ []) ++
@@ -29,11 +32,15 @@ echo_tokens : tokens_of echo ≡ Ok (
     on 21 615 (word 12 (codes "MOVE") ∷ word 17 (codes "IN-LEN") ∷ word 24 (codes "TO") ∷ word 27 (codes "OUT-LEN") ∷ period 34 (codes ".") ∷ []) ++
     on 22 650 (word 12 (codes "MOVE") ∷ word 17 (codes "IN-FROM") ∷ word 25 (codes "TO") ∷ word 28 (codes "OUT-TO") ∷ period 34 (codes ".") ∷ []) ++
     on 23 685 (word 12 (codes "SEND") ∷ word 17 (codes "OUTQ") ∷ word 22 (codes "FROM") ∷ word 27 (codes "BUF") ∷ word 31 (codes "WITH") ∷ word 36 (codes "EMI") ∷ period 39 (codes ".") ∷ []) ++
-    on 24 725 (word 12 (codes "GO") ∷ word 15 (codes "TO") ∷ word 18 (codes "NEXT-ONE") ∷ period 26 (codes ".") ∷ []))
+    on 24 725 (word 12 (codes "GO") ∷ word 15 (codes "TO") ∷ word 18 (codes "NEXT-ONE") ∷ period 26 (codes ".") ∷ [])
+
+pub echo_tokens : tokens_of echo ≡ Ok echo_list
 unfolding lines_tokens text_tokens front_of
 echo_tokens = refl
 
-leaver_tokens : tokens_of leaver ≡ Ok (
+-- the tokens of LEAVER
+abbrev pub leaver_list : List Token
+leaver_list =
     on 1 0 (word 8 (codes "IDENTIFICATION") ∷ word 23 (codes "DIVISION") ∷ period 31 (codes ".") ∷ []) ++
     on 2 32 (word 8 (codes "PROGRAM-ID") ∷ period 18 (codes ".") ∷ word 20 (codes "LEAVER") ∷ period 26 (codes ".") ∷ []) ++
     on 3 59 (word 8 (codes "DATA") ∷ word 13 (codes "DIVISION") ∷ period 21 (codes ".") ∷ []) ++
@@ -42,11 +49,15 @@ leaver_tokens : tokens_of leaver ≡ Ok (
     on 6 119 (word 12 (codes "PERFORM") ∷ word 20 (codes "B1") ∷ period 22 (codes ".") ∷ []) ++
     on 7 142 (word 12 (codes "STOP") ∷ word 17 (codes "RUN") ∷ period 20 (codes ".") ∷ []) ++
     on 8 163 (word 8 (codes "B1") ∷ period 10 (codes ".") ∷ []) ++
-    on 9 174 (word 12 (codes "GO") ∷ word 15 (codes "TO") ∷ word 18 (codes "A1") ∷ period 20 (codes ".") ∷ []))
+    on 9 174 (word 12 (codes "GO") ∷ word 15 (codes "TO") ∷ word 18 (codes "A1") ∷ period 20 (codes ".") ∷ [])
+
+pub leaver_tokens : tokens_of leaver ≡ Ok leaver_list
 unfolding lines_tokens text_tokens front_of
 leaver_tokens = refl
 
-orders_tokens : tokens_of orders ≡ Ok (
+-- the tokens of ORDERS
+abbrev pub orders_list : List Token
+orders_list =
     on 1 0 (word 8 (codes "IDENTIFICATION") ∷ word 23 (codes "DIVISION") ∷ period 31 (codes ".") ∷ []) ++
     on 2 32 (word 8 (codes "PROGRAM-ID") ∷ period 18 (codes ".") ∷ word 20 (codes "ORDERS") ∷ period 26 (codes ".") ∷ []) ++
     on 4 88 (word 8 (codes "ENVIRONMENT") ∷ word 20 (codes "DIVISION") ∷ period 28 (codes ".") ∷ []) ++
@@ -103,6 +114,8 @@ orders_tokens : tokens_of orders ≡ Ok (
     on 55 1843 (word 12 (codes "SEND") ∷ word 17 (codes "REPLY-OUT") ∷ word 27 (codes "FROM") ∷ word 32 (codes "REPLY-REC") ∷ word 42 (codes "WITH") ∷ word 47 (codes "EMI") ∷ []) ++
     on 56 1893 (word 16 (codes "AFTER") ∷ word 22 (codes "ADVANCING") ∷ number 32 (codes "1") ∷ word 34 (codes "LINE") ∷ period 38 (codes ".") ∷ []) ++
     on 57 1932 (word 8 (codes "ONE-ORDER-END") ∷ period 21 (codes ".") ∷ []) ++
-    on 58 1954 (word 12 (codes "EXIT") ∷ period 16 (codes ".") ∷ []))
+    on 58 1954 (word 12 (codes "EXIT") ∷ period 16 (codes ".") ∷ [])
+
+pub orders_tokens : tokens_of orders ≡ Ok orders_list
 unfolding lines_tokens text_tokens front_of
 orders_tokens = refl

@@ -92,13 +92,13 @@ front_calls here there replies a b h t c n some = by here.ending h t
 answers-append : (verbs more : List Entry) → answers_of (verbs ++ more) ≡ answers_of verbs ++ answers_of more
 answers-append verbs more = filter-append (λ (entry : Entry). not (is_waiting entry.reply)) verbs more
 
-calls-append : (verbs more : List Entry) → calls_of (verbs ++ more) ≡ calls_of verbs ++ calls_of more
+pub calls-append : (verbs more : List Entry) → calls_of (verbs ++ more) ≡ calls_of verbs ++ calls_of more
 calls-append verbs more = ap (λ l. map (λ (entry : Entry). entry.call) l) (answers-append verbs more) ∙ map-append (λ (entry : Entry). entry.call) (answers_of verbs) (answers_of more)
 
-replies-append : (verbs more : List Entry) → replies_of (verbs ++ more) ≡ replies_of verbs ++ replies_of more
+pub replies-append : (verbs more : List Entry) → replies_of (verbs ++ more) ≡ replies_of verbs ++ replies_of more
 replies-append verbs more = ap (λ l. map (λ (entry : Entry). entry.reply) l) (answers-append verbs more) ∙ map-append (λ (entry : Entry). entry.reply) (answers_of verbs) (answers_of more)
 
-as_many : (entries : List Entry) → length (calls_of entries) ≡ length (replies_of entries)
+pub as_many : (entries : List Entry) → length (calls_of entries) ≡ length (replies_of entries)
 as_many entries = length-map (answers_of entries) (λ (entry : Entry). entry.call) ∙ sym (length-map (answers_of entries) (λ (entry : Entry). entry.reply))
 
 pub fronts_make : (program : Program) (names : Option (List ℕ)) (verbs more : List Entry) → (meaning program names (replies_of (verbs ++ more))).calls ≡ calls_of (verbs ++ more)

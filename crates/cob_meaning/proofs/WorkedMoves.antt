@@ -84,6 +84,61 @@ move_zeros_to_digits : then_shows (move_to (zeros_word) (item (codes "M") ∷ []
 unfolding unit_limits
 move_zeros_to_digits = refl
 
+-- an X item to a longer one
+move_x_to_x : then_shows (move_to (of_item (codes "A")) (item (codes "B") ∷ []) ∷ []) (codes "B") ≡ sent (codes "ABC  ")
+unfolding unit_limits
+move_x_to_x = refl
+
+-- to a group its characters
+move_x_to_group : then_shows (move_to (of_item (codes "A")) (item (codes "G") ∷ []) ∷ []) (codes "G") ≡ sent (codes "ABC ")
+unfolding unit_limits
+move_x_to_group = refl
+
+-- and to a 9 item, where they are digits
+move_x_to_digits : does (codes "789") (codes "042") (codes "XY12") (move_to (of_item (codes "A")) (item (codes "N") ∷ []) ∷ shows (codes "N") ∷ []) ≡ sent (codes "00789")
+unfolding unit_limits
+move_x_to_digits = refl
+
+-- and not where one is a letter
+move_x_letters_to_digits : then_shows (move_to (of_item (codes "A")) (item (codes "M") ∷ []) ∷ []) (codes "M") ≡ data_fault
+unfolding unit_limits
+move_x_letters_to_digits = refl
+
+-- a 9 item to a group as its digits stand
+move_digits_to_group : then_shows (move_to (of_item (codes "M")) (item (codes "G") ∷ []) ∷ []) (codes "G") ≡ sent (codes "042 ")
+unfolding unit_limits
+move_digits_to_group = refl
+
+-- a number too
+move_numeral_to_group : then_shows (move_to (a_numeral (codes "7")) (item (codes "G") ∷ []) ∷ []) (codes "G") ≡ sent (codes "7   ")
+unfolding unit_limits
+move_numeral_to_group = refl
+
+-- a number to a 9 item by number
+move_numeral_to_digits : then_shows (move_to (a_numeral (codes "01234")) (item (codes "M") ∷ []) ∷ []) (codes "M") ≡ sent (codes "234")
+unfolding unit_limits
+move_numeral_to_digits = refl
+
+-- a group to an X item
+move_group_to_x : then_shows (move_to (of_item (codes "G")) (item (codes "A") ∷ []) ∷ []) (codes "A") ≡ sent (codes "XY1")
+unfolding unit_limits
+move_group_to_x = refl
+
+-- a group to itself
+move_group_to_group : then_shows (move_to (of_item (codes "G")) (item (codes "G") ∷ []) ∷ []) (codes "G") ≡ sent (codes "XY12")
+unfolding unit_limits
+move_group_to_group = refl
+
+-- SPACES to a group
+move_spaces_to_group : then_shows (move_to (spaces_word) (item (codes "G") ∷ []) ∷ []) (codes "G") ≡ sent (codes "    ")
+unfolding unit_limits
+move_spaces_to_group = refl
+
+-- ZERO to a group
+move_zeros_to_group : then_shows (move_to (zeros_word) (item (codes "G") ∷ []) ∷ []) (codes "G") ≡ sent (codes "0000")
+unfolding unit_limits
+move_zeros_to_group = refl
+
 -- a 9 item that holds a letter is no number
 move_letters : does (codes "ABC") (codes "0A2") (codes "XY12") (move_to (of_item (codes "M")) (item (codes "N") ∷ []) ∷ []) ≡ data_fault
 unfolding unit_limits
@@ -212,3 +267,13 @@ either = refl
 not_both : asks (codes "ABC") (codes "042") (condition joints.And (equals (of_item (codes "A")) (literal (codes "Q")) ∷ equals (of_item (codes "M")) (a_numeral (codes "42")) ∷ [])) ≡ sent (codes "NO ")
 unfolding unit_limits
 not_both = refl
+
+-- NUMERIC holds of digits
+numeric_digits : asks (codes "123") (codes "042") (alone (simples.Numeric (item (codes "A")) false)) ≡ sent (codes "YES")
+unfolding unit_limits
+numeric_digits = refl
+
+-- OR looks at each part too, though the first holds
+either_faults : asks (codes "ABC") (codes "0A2") (condition joints.Or (equals (of_item (codes "A")) (literal (codes "ABC")) ∷ equals (of_item (codes "M")) (a_numeral (codes "1")) ∷ [])) ≡ data_fault
+unfolding unit_limits
+either_faults = refl

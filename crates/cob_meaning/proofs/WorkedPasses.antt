@@ -3,9 +3,6 @@ use Rattle.std.proofs.Common.{◌≡◌, ℕ, true, false, List, [], ◌∷◌, 
 use Rattle.cob_lex.specs.declared.fault.SourceFault.{SourceFault}
 use Rattle.cob_lex.specs.declared.fault.SourceKind.TheVariants as faults
 use Rattle.cob_forms.specs.Faults.{fault, first}
-use Rattle.cob_forms.specs.declared.written.Name.{Name}
-use Rattle.cob_forms.specs.declared.written.Number.{Number}
-use Rattle.cob_forms.specs.declared.written.Position.{Position}
 use Rattle.cob_proc.specs.declared.tree.Addend.TheVariants as addends
 use Rattle.cob_proc.specs.declared.tree.Identifier.{Identifier}
 use Rattle.cob_proc.specs.declared.tree.Indicator.TheVariants as indicators
@@ -17,25 +14,11 @@ use Rattle.cob_proc.specs.declared.tree.Paragraph.{Paragraph}
 use Rattle.cob_proc.specs.declared.tree.Repetition.TheVariants as repetitions
 use Rattle.cob_proc.specs.declared.tree.Statement.{Statement, Move, Add, If', Perform, Go, Exit, Stop, Receive', Send, SwitchInput, Accept}
 use Rattle.cob_proc.specs.declared.tree.Subscript.TheVariants as subscripts
-use Rattle.cob_meaning.specs.Meaning.{Program}
-use Rattle.cob_meaning.specs.Names.{names_faults}
-use Rattle.std.specs.Option.{option_or}
 use Rattle.cob_meaning.specs.Ranges.{ranges_faults}
+use Rattle.cob_meaning.specs.Sources.{trees_fault}
+use Rattle.cob_meaning.proofs.Placed.{at, name_at, item_at, digits_at}
 use Rattle.cob_meaning.proofs.SmallPrograms.{program}
 use Rattle.cob_meaning.proofs.Trees.{alone, equals, here, paragraph, row, shape}
-
--- where something stands, in its line and column
-abbrev at : ℕ → ℕ → Position
-at line column = record { line = line; column = column }
-
-abbrev name_at : ℕ → ℕ → List ℕ → Name
-name_at line column text = record { text = text; position = at line column }
-
-abbrev item_at : ℕ → ℕ → List ℕ → Identifier
-item_at line column text = record { name = name_at line column text; subscript = None }
-
-abbrev digits_at : ℕ → ℕ → List ℕ → Number
-digits_at line column text = record { digits = text; position = at line column }
 
 -- a name at one place with a subscript in parentheses at another, and a number behind them
 abbrev second_of : ℕ → ℕ → List ℕ → List ℕ → Identifier
@@ -52,9 +35,6 @@ performs_thru line column text later other =
 abbrev goes : ℕ → ℕ → List ℕ → Statement
 goes line column text = Go (name_at line column text)
 
-abbrev program_fault : Program → Option SourceFault
-program_fault program = option_or (first (names_faults program)) (first (ranges_faults program.text))
-
 abbrev ranges_fault : List Paragraph → Option SourceFault
 ranges_fault text = first (ranges_faults text)
 
@@ -69,6 +49,10 @@ leaver_repaired = refl
 -- a GO in a paragraph that no PERFORM names goes anywhere
 never_performed : ranges_fault (paragraph (codes "A1") (goes 6 18 (codes "B1") ∷ []) ∷ paragraph (codes "B1") (goes 9 18 (codes "A1") ∷ []) ∷ []) ≡ None
 never_performed = refl
+
+-- nor is one bound by the range of another paragraph
+outside_of_ranges : ranges_fault (paragraph (codes "A1") (performs 3 20 (codes "C1") ∷ goes 4 18 (codes "B1") ∷ []) ∷ paragraph (codes "B1") (Stop ∷ []) ∷ paragraph (codes "C1") (Exit ∷ []) ∷ []) ≡ None
+outside_of_ranges = refl
 
 -- a GO stays in each range that has its paragraph: the first PERFORM allows it, and the second does not
 each_range : ranges_fault (paragraph (codes "A1") (performs_thru 3 20 (codes "B1") 28 (codes "C1") ∷ performs 4 20 (codes "C1") ∷ Stop ∷ []) ∷ paragraph (codes "B1") (Exit ∷ []) ∷ paragraph (codes "C1") (goes 8 18 (codes "B1") ∷ []) ∷ []) ≡ Some (fault 8 18 faults.LeavesRange)
@@ -96,7 +80,7 @@ no_circle = refl
 
 -- the fault of a program of one paragraph over the items of SmallPrograms
 abbrev found : List Statement → Option SourceFault
-found statements = program_fault (program (codes "ABC") (codes "042") (codes "XY12") (paragraph (codes "MAIN") statements ∷ []))
+found statements = trees_fault (program (codes "ABC") (codes "042") (codes "XY12") (paragraph (codes "MAIN") statements ∷ []))
 
 abbrev moves : Operand → Identifier → Statement
 moves source target = Move source (target ∷ [])

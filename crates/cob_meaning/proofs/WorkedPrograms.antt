@@ -1,5 +1,5 @@
 -- ECHO and ORDERS, the programs of the worked sources, with the replies that they get.
-use Rattle.std.proofs.Common.{◌≡◌, ℕ, true, false, List, [], ◌∷◌, ◌++◌, Option, Some, None, refl, codes}
+use Rattle.std.proofs.Common.{◌≡◌, ℕ, true, false, List, [], ◌∷◌, ◌++◌, Some, None, refl, codes}
 use Rattle.com_text.specs.Name.{field_of, spaces}
 use Rattle.com_cd.specs.InputArea.{opening_area, zeros}
 use Rattle.com_cd.specs.OutputArea.{opening_output}
@@ -11,24 +11,18 @@ use Rattle.com_events.specs.declared.reply.Reply.TheVariants as reply
 use Rattle.com_msg.specs.declared.rest.Kind.TheVariants as kind
 use Rattle.com_msg.specs.declared.sending.Advance.TheVariants as advance
 use Rattle.com_msg.specs.declared.sending.Part.TheVariants as part
-use Rattle.cob_proc.specs.declared.tree.Advancing.{Advancing}
-use Rattle.cob_proc.specs.declared.tree.Condition.{Condition}
 use Rattle.cob_proc.specs.declared.tree.Indicator.TheVariants as indicators
 use Rattle.cob_proc.specs.declared.tree.Lines.TheVariants as lines
 use Rattle.cob_proc.specs.declared.tree.Repetition.TheVariants as repetitions
 use Rattle.cob_proc.specs.declared.tree.Simple.TheVariants as simples
-use Rattle.cob_proc.specs.declared.tree.Statement.{Statement, Add, If', Exit, Stop, Receive', Send}
+use Rattle.cob_proc.specs.declared.tree.Statement.{Statement, Move, Add, If', Perform, Go, Exit, Stop, Receive', Send}
+use Rattle.cob_proc.specs.declared.tree.Addend.TheVariants as addends
+use Rattle.cob_proc.specs.declared.tree.Operand.TheVariants as operands
+use Rattle.cob_proc.specs.declared.tree.Relation.TheVariants as relations
 use Rattle.cob_meaning.specs.Layouts.{an_item, an_input, an_output, of_characters, of_digits, of_items}
 use Rattle.cob_meaning.specs.Meaning.{Stopped, Wants, Program, meaning, unit_limits}
-use Rattle.cob_meaning.proofs.Trees.{alone, a_numeral, by_item, by_number, equals, go_to, here, item, literal, move_to, name, of_item, paragraph, perform_thru, row, shape, spaces_word}
-
--- SEND of an item with EMI
-abbrev pub sends_emi : List ℕ → List ℕ → Option Advancing → Statement
-sends_emi cd from advancing = Send (name cd) (Some (item from)) (Some (record { indicator = indicators.Emi; advancing = advancing }))
-
--- RECEIVE of a message without NO DATA
-abbrev pub receives : List ℕ → List ℕ → Statement
-receives cd into = Receive' (name cd) false (item into) (shape []) (row [])
+use Rattle.cob_meaning.proofs.Placed.{at, name_at, item_at, digits_at, of_item, of_literal, of_number, paragraph_at}
+use Rattle.cob_meaning.proofs.Trees.{alone, row, shape}
 
 -- the area of an input CD: the name of the queue, the moment, the source, the length and the end key
 abbrev pub in_area : List ℕ → List ℕ → List ℕ → List ℕ → List ℕ → List ℕ
@@ -59,10 +53,15 @@ echo = record {
     initial = None;
   };
   text =
-      paragraph (codes "FIRST-ONE") (move_to (literal (codes "Q1")) (item (codes "IN-NAME") ∷ []) ∷ move_to (a_numeral (codes "1")) (item (codes "OUT-COUNT") ∷ []) ∷ [])
-      ∷ paragraph (codes "NEXT-ONE")
-      (receives (codes "INQ") (codes "BUF") ∷ move_to (of_item (codes "IN-LEN")) (item (codes "OUT-LEN") ∷ [])
-      ∷ move_to (of_item (codes "IN-FROM")) (item (codes "OUT-TO") ∷ []) ∷ sends_emi (codes "OUTQ") (codes "BUF") None ∷ go_to (codes "NEXT-ONE") ∷ []) ∷ [];
+      paragraph_at 16 (codes "FIRST-ONE") (
+      (Move (of_literal 17 17 (codes "Q1")) (item_at 17 25 (codes "IN-NAME") ∷ []) ∷ []) ∷
+      (Move (of_number 18 17 (codes "1")) (item_at 18 22 (codes "OUT-COUNT") ∷ []) ∷ []) ∷ [])
+      ∷ paragraph_at 19 (codes "NEXT-ONE") (
+      (Receive' (name_at 20 20 (codes "INQ")) false (item_at 20 37 (codes "BUF")) (shape []) (row []) ∷ []) ∷
+      (Move (of_item 21 17 (codes "IN-LEN")) (item_at 21 27 (codes "OUT-LEN") ∷ []) ∷ []) ∷
+      (Move (of_item 22 17 (codes "IN-FROM")) (item_at 22 28 (codes "OUT-TO") ∷ []) ∷ []) ∷
+      (Send (name_at 23 17 (codes "OUTQ")) (Some (item_at 23 27 (codes "BUF"))) (Some (record { indicator = indicators.Emi; advancing = None })) ∷ []) ∷
+      (Go (name_at 24 18 (codes "NEXT-ONE")) ∷ []) ∷ []) ∷ [];
 }
 
 -- its area before any message, and when T1 has sent HELLO
@@ -95,18 +94,15 @@ echo_answers = refl
 
 -- the branches of ORDERS
 abbrev leaves : List Statement
-leaves = go_to (codes "ONE-ORDER-END") ∷ []
+leaves = Go (name_at 47 36 (codes "ONE-ORDER-END")) ∷ []
 
 abbrev accepts : List Statement
-accepts = Add (by_item (codes "ORD-QTY")) (item (codes "TOTAL-QTY")) ∷ move_to (literal (codes "ACCEPTED")) (item (codes "REP-WORD") ∷ []) ∷ []
+accepts = Add (addends.Item (item_at 50 20 (codes "ORD-QTY"))) (item_at 50 31 (codes "TOTAL-QTY")) ∷ Move (of_literal 51 21 (codes "ACCEPTED")) (item_at 51 35 (codes "REP-WORD") ∷ []) ∷ []
 
 abbrev rejects : List Statement
-rejects = move_to (literal (codes "REJECTED")) (item (codes "REP-WORD") ∷ []) ∷ []
+rejects = Move (of_literal 53 21 (codes "REJECTED")) (item_at 53 35 (codes "REP-WORD") ∷ []) ∷ []
 
-abbrev is_total : Condition
-is_total = alone (equals (of_item (codes "ORD-KIND")) (literal (codes "T")))
-
-abbrev orders : Program
+abbrev pub orders : Program
 orders = record {
   layout = record {
     names =
@@ -135,16 +131,25 @@ orders = record {
     initial = Some 4;
   };
   text =
-      paragraph (codes "MAIN-LINE")
-      (move_to (literal (codes "ORDERS")) (item (codes "Q-NAME") ∷ []) ∷ move_to (a_numeral (codes "1")) (item (codes "R-COUNT") ∷ []) ∷
-      perform_thru (codes "ONE-ORDER") (codes "ONE-ORDER-END") (repetitions.Until is_total) ∷ move_to (of_item (codes "TOTAL-QTY")) (item (codes "TOT-OUT") ∷ []) ∷
-      move_to (a_numeral (codes "12")) (item (codes "R-LENGTH") ∷ []) ∷ sends_emi (codes "REPLY-OUT") (codes "TOTAL-REC") None ∷ Stop ∷ [])
-      ∷ paragraph (codes "ONE-ORDER")
-      (move_to spaces_word (item (codes "ORDER-REC") ∷ []) ∷ receives (codes "ORDER-IN") (codes "ORDER-REC") ∷ move_to (of_item (codes "Q-SOURCE")) (item (codes "R-DEST") ∷ []) ∷
-      If' here is_total (shape leaves) (row leaves) (shape []) (row []) ∷ move_to (of_item (codes "ORD-NO")) (item (codes "REP-NO") ∷ []) ∷
-      If' here (alone (simples.Numeric (item (codes "ORD-QTY")) false)) (shape accepts) (row accepts) (shape rejects) (row rejects) ∷
-      move_to (a_numeral (codes "13")) (item (codes "R-LENGTH") ∷ []) ∷ sends_emi (codes "REPLY-OUT") (codes "REPLY-REC") (Some (record { after = true; lines = lines.Count (by_number (codes "1")) })) ∷ [])
-      ∷ paragraph (codes "ONE-ORDER-END") (Exit ∷ []) ∷ [];
+      paragraph_at 34 (codes "MAIN-LINE") (
+      (Move (of_literal 35 17 (codes "ORDERS")) (item_at 35 29 (codes "Q-NAME") ∷ []) ∷ []) ∷
+      (Move (of_number 36 17 (codes "1")) (item_at 36 22 (codes "R-COUNT") ∷ []) ∷ []) ∷
+      (Perform (name_at 37 20 (codes "ONE-ORDER")) (Some (name_at 37 35 (codes "ONE-ORDER-END"))) (repetitions.Until (alone (simples.Compares (of_item 38 22 (codes "ORD-KIND")) false relations.Equal (of_literal 38 33 (codes "T"))))) ∷ []) ∷
+      (Move (of_item 39 17 (codes "TOTAL-QTY")) (item_at 39 30 (codes "TOT-OUT") ∷ []) ∷ []) ∷
+      (Move (of_number 40 17 (codes "12")) (item_at 40 23 (codes "R-LENGTH") ∷ []) ∷ []) ∷
+      (Send (name_at 41 17 (codes "REPLY-OUT")) (Some (item_at 41 32 (codes "TOTAL-REC"))) (Some (record { indicator = indicators.Emi; advancing = None })) ∷ []) ∷
+      (Stop ∷ []) ∷ [])
+      ∷ paragraph_at 43 (codes "ONE-ORDER") (
+      (Move (operands.Spaces (at 44 17)) (item_at 44 27 (codes "ORDER-REC") ∷ []) ∷ []) ∷
+      (Receive' (name_at 45 20 (codes "ORDER-IN")) false (item_at 45 42 (codes "ORDER-REC")) (shape []) (row []) ∷ []) ∷
+      (Move (of_item 46 17 (codes "Q-SOURCE")) (item_at 46 29 (codes "R-DEST") ∷ []) ∷ []) ∷
+      (If' (at 47 12) (alone (simples.Compares (of_item 47 15 (codes "ORD-KIND")) false relations.Equal (of_literal 47 26 (codes "T")))) (shape leaves) (row leaves) (shape []) (row []) ∷ []) ∷
+      (Move (of_item 48 17 (codes "ORD-NO")) (item_at 48 27 (codes "REP-NO") ∷ []) ∷ []) ∷
+      (If' (at 49 12) (alone (simples.Numeric (item_at 49 15 (codes "ORD-QTY")) false)) (shape accepts) (row accepts) (shape rejects) (row rejects) ∷ []) ∷
+      (Move (of_number 54 17 (codes "13")) (item_at 54 23 (codes "R-LENGTH") ∷ []) ∷ []) ∷
+      (Send (name_at 55 17 (codes "REPLY-OUT")) (Some (item_at 55 32 (codes "REPLY-REC"))) (Some (record { indicator = indicators.Emi; advancing = Some (record { after = true; lines = lines.Count (addends.Number (digits_at 56 32 (codes "1"))) }) })) ∷ []) ∷ [])
+      ∷ paragraph_at 57 (codes "ONE-ORDER-END") (
+      (Exit ∷ []) ∷ []) ∷ [];
 }
 
 -- what ORDERS is given: a message of this length and text from T1

@@ -92,6 +92,10 @@ until_later : runs (perform (codes "P") (repetitions.Until (m_is (codes "45"))) 
 unfolding unit_limits
 until_later = refl
 
+-- a fault in UNTIL's test stops the unit before its turn is counted
+until_letters : meaning_within (record { statements = 2; verbs = 1 }) (program (codes "ABC") (codes "0A2") (codes "XY12") (paragraph (codes "MAIN") (Exit ∷ perform (codes "P") (repetitions.Until (m_is (codes "42"))) ∷ []) ∷ once_more ∷ [])) None [] ≡ data_fault
+until_letters = refl
+
 -- THRU takes in the paragraphs between
 performs_thru : runs (perform_thru (codes "P") (codes "Q") repetitions.Once ∷ shows_m) (once_more ∷ paragraph (codes "Q") (adds (codes "100") ∷ []) ∷ []) ≡ sent (codes "143")
 unfolding unit_limits
@@ -101,6 +105,16 @@ performs_thru = refl
 go_in_range : runs (perform_thru (codes "P") (codes "R") repetitions.Once ∷ shows_m) (paragraph (codes "P") (go_to (codes "R") ∷ []) ∷ paragraph (codes "Q") (adds (codes "100") ∷ []) ∷ paragraph (codes "R") (adds (codes "1") ∷ []) ∷ []) ≡ sent (codes "043")
 unfolding unit_limits
 go_in_range = refl
+
+-- which other paragraphs may follow
+go_in_range_ends : runs (perform_thru (codes "P") (codes "Q") repetitions.Once ∷ shows_m) (paragraph (codes "P") (go_to (codes "Q") ∷ []) ∷ paragraph (codes "Q") (adds (codes "1") ∷ []) ∷ paragraph (codes "R") (adds (codes "100") ∷ []) ∷ []) ≡ sent (codes "043")
+unfolding unit_limits
+go_in_range_ends = refl
+
+-- and may go back to its first
+go_back_in_range : runs (perform_thru (codes "P") (codes "Q") repetitions.Once ∷ shows_m) (once_more ∷ paragraph (codes "Q") (If' here (m_is (codes "45")) (shape (Exit ∷ [])) (row (Exit ∷ [])) (shape (go_to (codes "P") ∷ [])) (row (go_to (codes "P") ∷ [])) ∷ []) ∷ []) ≡ sent (codes "045")
+unfolding unit_limits
+go_back_in_range = refl
 
 -- a GO goes back too
 go_back : runs (adds (codes "1") ∷ If' here (m_is (codes "44")) (shape shows_m) (row shows_m) (shape []) (row []) ∷ go_to (codes "MAIN") ∷ []) [] ≡ sent (codes "044")
@@ -143,6 +157,11 @@ given = refl
 given_area : meaning (main (receives ∷ move_to (of_item (codes "LEN")) (item (codes "M") ∷ []) ∷ shows_m) []) None (reply.Given two_given (codes "HI") ∷ []) ≡ answered (asked ∷ []) (sends (codes "002"))
 unfolding unit_limits
 given_area = refl
+
+-- first the area and then the text, which may be for an item over it
+text_over_area : meaning (main (Receive' (name (codes "C")) false (item (codes "LEN")) (shape []) (row []) ∷ shows (codes "LEN") ∷ []) []) None (reply.Given two_given (codes "HI") ∷ []) ≡ answered (call.Receive opening_area kind.Message 4 false ∷ []) (sends (codes "HI02"))
+unfolding unit_limits
+text_over_area = refl
 
 -- NO DATA is passed over where there is data
 given_data : meaning (main (receives ∷ shows_m) []) None (reply.Given two_given (codes "HI") ∷ []) ≡ answered (asked ∷ []) (sends (codes "042"))

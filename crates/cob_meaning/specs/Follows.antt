@@ -92,3 +92,14 @@ pub record IsRunning (party : Party) (program : Program) (entries : List Entry) 
 -- a unit's own entries, at any time
 abbrev pub SoFar : Party → Program → List Entry → Type 0
 SoFar party program entries = (entries ≡ []) ⊎ (Follows party program entries ⊎ IsRunning party program entries)
+
+-- behind a call that waits comes the same call, which then waits no longer, or the STOP of a unit for which
+-- nothing can happen any more
+abbrev pub ComesBehind : Entry → Entry → Type 0
+ComesBehind waiting next =
+    ((next.call ≡ waiting.call) × (is_waiting next.reply ≡ false)) ⊎ (next.call ≡ Stop reason.Idle)
+
+abbrev pub AsksAgain : List Entry → Type 0
+AsksAgain [] = Unit {0}
+AsksAgain (entry ∷ []) = Unit {0}
+AsksAgain (entry ∷ next ∷ entries) = (is_waiting entry.reply ≡ true → ComesBehind entry next) × AsksAgain (next ∷ entries)

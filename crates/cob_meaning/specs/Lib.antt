@@ -8,3 +8,5 @@ pub mod Follows
 pub mod Laws
 pub mod Names
 pub mod Ranges
+pub mod Sources
+pub mod Sound

@@ -1,9 +1,16 @@
 //! Laws of the definitions. A function here does nothing; its contract is the law.
-ghost use Rattle.std.specs.Prelude.{◌≡◌, ◌<◌, ◌≤◌, ◌+◌, ℕ, List, ◌∷◌, ◌++◌, length, Option};
+ghost use Rattle.std.specs.Prelude.{◌≡◌, ◌<◌, ◌≤◌, ◌+◌, ℕ, List, ◌∷◌, ◌++◌, length, drop, Option, None, IfSome};
+ghost use Rattle.cob_lex.specs.declared.token.Token.{Token as TokenOf};
+ghost use Rattle.cob_forms.specs.Faults.{first};
+ghost use Rattle.cob_data.specs.Divisions.{IsDivisionOf};
+ghost use Rattle.cob_data.specs.declared.tree.DataDivision.{DataDivision as DivisionOf};
+ghost use Rattle.com_events.specs.Calls.{AreNames};
 ghost use Rattle.com_events.specs.declared.entry.Entry.{Entry as EntryOf};
+ghost use Rattle.com_events.specs.declared.call.StopReason.TheVariants as reason;
 ghost use Rattle.com_events.specs.declared.call.Party.{Party as PartyOf};
 ghost use Rattle.com_events.specs.declared.reply.Reply.{Reply as ReplyOf};
 ghost use Rattle.cob_meaning.specs.Follows.{
+  AsksAgain,
   Follows,
   Makes,
   SoFar,
@@ -13,11 +20,16 @@ ghost use Rattle.cob_meaning.specs.Follows.{
 ghost use Rattle.cob_meaning.specs.Laws.{GoesOn, IsPrefixOf, Takes};
 ghost use Rattle.cob_proc.specs.declared.tree.Paragraph.{Paragraph as ParagraphOf};
 ghost use Rattle.cob_meaning.specs.Layouts.{Layout};
+ghost use Rattle.cob_meaning.specs.Names.{names_faults};
+ghost use Rattle.cob_meaning.specs.Sound.{AreFit, AreTexts, AreWellFormed, IsSound};
+ghost use Rattle.cob_lex.specs.declared.fault.SourceFault.{SourceFault as FaultOf};
+ghost use Rattle.cob_meaning.specs.Sources.{IsProgramOf, IsSourceFaultOf, from_procedure};
 ghost use Rattle.cob_meaning.specs.Meaning.{
   Ending,
   Limits,
   Program,
   Run,
+  Stopped,
   meaning,
   meaning_within,
   range,
@@ -77,4 +89,52 @@ pub fn more_bound_changes_nothing()
     ensures { (bound : ℕ) (layout : Layout) (text : List ParagraphOf) (at last : ℕ) (run : Run) →
         run.left < bound →
         range bound layout text at last run ≡ range (bound + 1) layout text at last run }
+{}
+
+/// The Procedure Division begins at the last token of the divisions before it, and nothing is left out.
+pub fn procedure_begins_where_divisions_end()
+    ensures { (tokens : List TokenOf) (place : ℕ) (division : DivisionOf) →
+        IsDivisionOf tokens place division → from_procedure tokens ≡ drop place tokens }
+{}
+
+/// A program stops at its end, at a limit or for a fault, and never for want of anything to happen.
+pub fn programs_never_stop_idle()
+    ensures { (program : Program) (names : Option (List ℕ)) (replies : List ReplyOf) →
+        (meaning program names replies).ending ≡ Stopped reason.Idle → ⊥ }
+{}
+
+/// What the entries of a unit tell so far, they told at any time before, where a call that waits comes
+/// again until it is answered.
+pub fn fronts_are_so_far()
+    ensures { (party : PartyOf) (program : Program) (front rest : List EntryOf) →
+        AsksAgain (front ++ rest) → SoFar party program (front ++ rest) →
+        SoFar party program front }
+{}
+
+/// The calls of a program without a fault are well formed, those that were answered and the one that
+/// wants a reply, where its layout is sound, its literals are texts and the replies fit the calls.
+pub fn calls_are_well_formed()
+    ensures { (program : Program) (names : Option (List ℕ)) (replies : List ReplyOf) →
+        IsSound program.layout → AreTexts program.text → first (names_faults program) ≡ None →
+        IfSome names AreNames → AreFit (meaning program names replies).calls replies →
+        AreWellFormed (meaning program names replies) }
+{}
+
+/// A source is one program: two that it is have one meaning.
+pub fn sources_have_one_meaning()
+    ensures { (source : List ℕ) (program other : Program) (names : Option (List ℕ))
+        (replies : List ReplyOf) → IsProgramOf source program → IsProgramOf source other →
+        meaning program names replies ≡ meaning other names replies }
+{}
+
+/// Or it has one fault.
+pub fn sources_have_one_fault()
+    ensures { (source : List ℕ) (fault other : FaultOf) → IsSourceFaultOf source fault →
+        IsSourceFaultOf source other → fault ≡ other }
+{}
+
+/// And not both.
+pub fn programs_have_no_fault()
+    ensures { (source : List ℕ) (program : Program) (fault : FaultOf) →
+        IsProgramOf source program → IsSourceFaultOf source fault → ⊥ }
 {}

@@ -5,13 +5,18 @@
 //! `specs/Follows.antt` says when the own entries of a unit are those of its program (`Follows`), and when they
 //! are so far (`SoFar`).
 //!
+//! `specs/Sources.antt` says which program a source is (`IsProgramOf`) and which fault it has
+//! (`IsSourceFaultOf`), over all passes.
+//!
 //! These are definitions, on which no code stands yet, with their laws.
 #![tactic(auto)]
 
 mod laws;
 
 pub use laws::{
-    answered_calls_stay, calls_are_within_limits, each_call_takes_a_reply, follows_so_far,
-    fronts_are_of_the_program, more_bound_changes_nothing, more_replies_go_on,
-    replies_decide_calls,
+    answered_calls_stay, calls_are_well_formed, calls_are_within_limits, each_call_takes_a_reply,
+    follows_so_far, fronts_are_of_the_program, fronts_are_so_far, more_bound_changes_nothing,
+    more_replies_go_on, procedure_begins_where_divisions_end, programs_have_no_fault,
+    programs_never_stop_idle, replies_decide_calls, sources_have_one_fault,
+    sources_have_one_meaning,
 };

@@ -1,4 +1,4 @@
-use Rattle.std.proofs.Common.{◌+◌, add-one}
+use Rattle.std.proofs.Common.{add-one}
 use Rattle.cob_meaning.proofs.Bounds.{range_more}
 use Rattle.cob_meaning.proofs.laws.more_bound_changes_nothing.Goals as goal
 
