@@ -1,59 +1,43 @@
 -- What holds of every state that a legal history leaves.
-use Rattle.std.proofs.Common.{◌≡◌, ◌≢◌, ℕ, ◌+◌, ◌-◌, ◌<◌, ◌≤◌, zero, suc, Bool, true, false, not, ◌&&◌, List, [], ◌∷◌, ◌++◌, Some, None, Option, length, take, drop, refl, sym, ap, subst, ◌∙◌, inl, inr, arith, eq-eqb, length-append}
-use Rattle.std.specs.Prelude.{◌==◌, slice_get, slice_set, option_map, replicate, map}
-use Rattle.std.specs.List.{All, AllPairs, filter}
-use Rattle.std.proofs.lemmas.Bool.{cases_Bool, and_from, not-true, true≢false}
-use Rattle.std.proofs.lemmas.List.{length-take-le, length-drop, length-replicate, length-map}
+use Rattle.std.proofs.Common.{◌≡◌, ℕ, ◌+◌, ◌≤◌, zero, suc, true, false, not, List, [], ◌∷◌, Some, None, Option, length, refl, sym, ap, subst, ◌∙◌, inl, inr, arith, eq-eqb}
+use Rattle.std.specs.Prelude.{◌==◌, slice_get, slice_set, replicate}
+use Rattle.std.specs.List.{All, AllPairs}
+use Rattle.std.proofs.lemmas.Bool.{cases_Bool, and_from, true≢false}
+use Rattle.std.proofs.lemmas.List.{length-replicate, length-map}
 use Rattle.std.proofs.lemmas.List.Elements.{All-filter, All-cons, All-push, All-head, All-tail}
 use Rattle.std.proofs.lemmas.List.Kept.{AllPairs-filter, AllPairs-cons}
 use Rattle.std.proofs.lemmas.List.Quantifiers.{all_pairs_push}
 use Rattle.std.proofs.Math.ListN.{length-set}
 use Rattle.std.proofs.lemmas.Option.{none-some, same_Some}
-use Rattle.com_msg.specs.Begun.{Begun}
 use Rattle.com_msg.specs.declared.message.Message.{Message}
-use Rattle.com_msg.specs.declared.message.RawMessage.{RawMessage}
-use Rattle.com_msg.specs.declared.sending.Part.{Part}
 use Rattle.com_msg.specs.Portion.{take_portion}
-use Rattle.com_cd.specs.InputArea.{in_field}
-use Rattle.com_cd.specs.declared.input_area.InField.TheVariants as field
 use Rattle.com_tree.specs.declared.tree.Node.{Node}
-use Rattle.com_tree.specs.Written.{leaf_count}
-use Rattle.com_tree.specs.Places.{first_leaf, past_leaf, top_of}
-use Rattle.com_tree.proofs.Branches.{leaves_of_branch}
 use Rattle.com_net.specs.declared.net.Net.{Net}
 use Rattle.com_net.specs.Network.{IsNet}
 use Rattle.com_events.specs.declared.call.Party.{Party}
 use Rattle.com_events.specs.declared.call.Party.TheVariants as party
 use Rattle.com_events.specs.Calls.{IsWellFormed}
 use Rattle.com_events.specs.declared.call.Call.{Call}
-use Rattle.com_events.specs.declared.call.Call.TheVariants as made
 use Rattle.com_events.specs.declared.reply.Reply.{Reply}
 use Rattle.com_events.specs.declared.entry.Entry.{Entry}
 use Rattle.com_recv.specs.declared.lists.Waiting.{Waiting}
 use Rattle.com_recv.specs.declared.lists.Held.{Held}
-use Rattle.com_recv.specs.Incoming.{IsEarlier, is_on, designated, first_on, chosen_leaf, without_first, is_held_on, without_held, with_held, held_under}
+use Rattle.com_recv.specs.Incoming.{IsEarlier, is_on, first_on, chosen_leaf, without_first, is_held_on, without_held, with_held, held_under}
 use Rattle.com_recv.specs.Receiving.{Next, next_waiting}
-use Rattle.com_send.specs.declared.destination.Destination.{Destination}
-use Rattle.com_send.specs.Outgoing.{Outgoing, AreFor}
-use Rattle.com_send.specs.Found.{Found, destination_with, find_destinations}
-use Rattle.com_send.specs.Sending.{serve, sent_text, send_found, is_nothing}
-use Rattle.com_send.specs.Switching.{switch, is_key_of_each, switch_found}
+use Rattle.com_send.specs.Outgoing.{AreFor}
 use Rattle.com_send.proofs.Keeping.{are_for_opening}
 use Rattle.com_state.specs.declared.parties.TheConstants.{MAX_VERBS, MAX_ARRIVALS}
-use Rattle.com_state.specs.declared.parties.UnitMode.{UnitMode}
 use Rattle.com_state.specs.declared.parties.UnitState.{UnitState}
-use Rattle.com_state.specs.declared.parties.TerminalMode.{TerminalMode}
 use Rattle.com_state.specs.declared.parties.TerminalState.{TerminalState}
 use Rattle.com_state.specs.State.{State, destinations_of, opening, opening_unit, opening_terminal}
-use Rattle.com_state.specs.Switches.{is_key, set_between, switch_leaves, switch_terminal, switch_input}
-use Rattle.com_state.specs.Steps.{step, unit_step, terminal_step, next_if, with_unit_mode, with_terminal_mode, with_verb, with_arrival}
+use Rattle.com_state.specs.Steps.{step}
 use Rattle.com_state.specs.Histories.{LeadsTo}
 use Rattle.com_state.specs.Wholeness.{Arrival, HandedOut}
 use Rattle.com_state.specs.Reached.{IsConsistent, AreApart}
-use Rattle.com_state.proofs.Frames.{option_cases, next_if-Some, SameQueues}
+use Rattle.com_state.proofs.Frames.{option_cases}
 use Rattle.com_state.proofs.StepCases.{step_of_unit, step_of_terminal}
 use Rattle.com_state.proofs.Verbs.{next_in}
-use Rattle.com_state.proofs.Changes.{Change, Changed, SameStore, Comes, Stops, Gives, quiet, comes, stops, gives}
+use Rattle.com_state.proofs.Changes.{Change, SameStore, Comes, Stops, Gives, quiet, comes, stops, gives}
 use Rattle.com_state.proofs.Changing.{changed}
 use Rattle.com_state.proofs.Owned.{at_place, unit_done, terminal_done}
 use Rattle.com_state.proofs.Flags.{SameSizes, sizes_of_unit, sizes_of_terminal}

@@ -1,6 +1,6 @@
 -- Every step keeps a flag for each leaf and terminal, and a place for each destination and unit.
-use Rattle.std.proofs.Common.{◌≡◌, ℕ, ◌+◌, ◌-◌, ◌<◌, ◌≤◌, Bool, true, false, ◌&&◌, List, [], ◌∷◌, ◌++◌, Some, None, Option, length, take, drop, refl, sym, ap, subst, ◌∙◌, inl, inr, arith, length-append}
-use Rattle.std.specs.Prelude.{◌||◌, IfSome, is_none, slice_get, slice_set, option_map, replicate}
+use Rattle.std.proofs.Common.{◌≡◌, ℕ, ◌+◌, ◌-◌, ◌≤◌, Bool, true, false, ◌&&◌, List, [], ◌∷◌, ◌++◌, Some, None, Option, length, take, drop, refl, sym, ap, subst, ◌∙◌, inl, inr, arith, length-append}
+use Rattle.std.specs.Prelude.{◌||◌, IfSome, is_none, slice_get, option_map, replicate}
 use Rattle.std.proofs.lemmas.Bool.{cases_Bool}
 use Rattle.std.proofs.lemmas.Option.{none-some, same_Some}
 use Rattle.std.proofs.lemmas.List.{length-take-le, length-drop, length-replicate}
@@ -14,7 +14,6 @@ use Rattle.com_msg.specs.Rendering.{IsAdvance}
 use Rattle.com_cd.specs.Designation.{path_fields}
 use Rattle.com_cd.specs.InputArea.{in_field}
 use Rattle.com_cd.specs.declared.input_area.InField.TheVariants as field
-use Rattle.com_tree.specs.declared.tree.TreeRow.{TreeRow}
 use Rattle.com_tree.specs.declared.tree.Node.{Node}
 use Rattle.com_tree.specs.Written.{leaf_count}
 use Rattle.com_tree.specs.Places.{first_leaf, past_leaf, top_of}
@@ -43,7 +42,7 @@ use Rattle.com_state.specs.declared.parties.TerminalMode.TheVariants.{Holding, E
 use Rattle.com_state.specs.State.{State, destinations_of, unit_mode}
 use Rattle.com_state.specs.Answers.{is_ready}
 use Rattle.com_state.specs.Switches.{is_key, set_between, switch_leaves, switch_terminal, switch_input}
-use Rattle.com_state.specs.Steps.{unit_step, terminal_step, next_if, with_reply, with_verb, with_arrival, with_unit_mode, with_terminal_mode, verb, start, schedule_of, receive_running, step_receive, is_waiting_for, is_running, is_dormant, may_do_verb, may_stop, stop_unit, arrived_message, arrive, feed_of}
+use Rattle.com_state.specs.Steps.{unit_step, terminal_step, with_reply, with_verb, with_arrival, with_unit_mode, with_terminal_mode, verb, start, schedule_of, receive_running, step_receive, is_waiting_for, is_running, is_dormant, may_do_verb, may_stop, stop_unit, arrived_message, arrive, feed_of}
 use Rattle.com_state.proofs.Frames.{option_cases, next_if-Some}
 use Rattle.com_state.proofs.Verbs.{receive_in, send_in, switch_output_in}
 

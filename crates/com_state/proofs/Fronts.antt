@@ -1,7 +1,7 @@
 -- The fronts of legal histories, and what calls make.
-use Rattle.std.proofs.Common.{◌≡◌, List, [], ◌∷◌, ◌++◌, Some, None, Option, refl, sym, ap, subst, ◌∙◌}
-use Rattle.std.specs.Prelude.{map, option_map, option_and_then}
-use Rattle.std.proofs.lemmas.Option.{option_and_then_some, same_Some, none-some}
+use Rattle.std.proofs.Common.{◌≡◌, List, [], ◌∷◌, ◌++◌, Some, refl, sym, ap, subst, ◌∙◌}
+use Rattle.std.specs.Prelude.{map, option_map}
+use Rattle.std.proofs.lemmas.Option.{option_and_then_some, same_Some}
 use Rattle.com_net.specs.declared.net.Net.{Net}
 use Rattle.com_events.specs.declared.call.Party.{Party}
 use Rattle.com_events.specs.declared.call.Call.{Call}
@@ -9,7 +9,7 @@ use Rattle.com_events.specs.declared.reply.Reply.{Reply}
 use Rattle.com_events.specs.declared.entry.Entry.{Entry}
 use Rattle.com_state.specs.State.{State, opening}
 use Rattle.com_state.specs.Steps.{step}
-use Rattle.com_state.specs.Histories.{LeadsTo, Legal, run, run_from, entry_before, call_made, state_after}
+use Rattle.com_state.specs.Histories.{LeadsTo, Legal, run_from, entry_before, call_made, state_after}
 use Rattle.com_state.proofs.Runs.{run_of_leads, option_map_some}
 
 -- a history leads on from where its front leads

@@ -1,10 +1,10 @@
 -- In an idle system no call is possible but STOP IDLE and END IDLE; a party that has stopped or ended
 -- has no call.
-use Rattle.std.proofs.Common.{◌≡◌, ℕ, ◌+◌, ◌<◌, ◌≤◌, Bool, true, false, not, ◌&&◌, List, [], ◌∷◌, length, Some, None, Option, refl, sym, ap, ◌∙◌, inl, inr, arith, nat_lt}
-use Rattle.std.specs.Prelude.{◌⊎◌, is_some, is_none, option_map, slice_get, ◌==◌, IsTrue}
+use Rattle.std.proofs.Common.{◌≡◌, ℕ, ◌<◌, ◌≤◌, Bool, true, false, ◌&&◌, List, [], ◌∷◌, length, Some, None, Option, refl, sym, ap, ◌∙◌, inl, inr, arith, nat_lt}
+use Rattle.std.specs.Prelude.{◌⊎◌, is_some, is_none}
 use Rattle.std.specs.List.{list_all, range_with_len}
 use Rattle.std.specs.Str.{bytes_eq}
-use Rattle.std.proofs.lemmas.Bool.{cases_Bool, false≢true, true≢false, and_parts, not-true}
+use Rattle.std.proofs.lemmas.Bool.{cases_Bool, false≢true, and_parts, not-true}
 use Rattle.std.proofs.lemmas.Bool.Decides.{nat_tests}
 use Rattle.std.proofs.lemmas.Option.{none-some, slice_get_past}
 use Rattle.std.proofs.lemmas.Slice.Eq.{bytes_eq-Decides}
@@ -19,7 +19,6 @@ use Rattle.com_events.specs.declared.call.EndReason.TheVariants as finish
 use Rattle.com_events.specs.declared.call.Call.{Call}
 use Rattle.com_events.specs.declared.call.Call.TheVariants as made
 use Rattle.com_events.specs.declared.reply.Reply.{Reply}
-use Rattle.com_net.specs.declared.net.Feed.{Feed}
 use Rattle.com_net.specs.Numbers.{unit_number, terminal_number}
 use Rattle.com_recv.proofs.Members.{Among, among_range}
 use Rattle.com_recv.specs.Incoming.{chosen_leaf}
@@ -29,7 +28,7 @@ use Rattle.com_state.specs.declared.parties.TerminalMode.{TerminalMode}
 use Rattle.com_state.specs.declared.parties.TerminalMode.TheVariants.{Feeding, Holding, Ended}
 use Rattle.com_state.specs.State.{State, unit_mode, terminal_mode}
 use Rattle.com_state.specs.Answers.{is_ready}
-use Rattle.com_state.specs.Steps.{step, unit_step, terminal_step, next_if, verb, start, schedule_of, step_receive, is_dormant, is_running, is_waiting_for, is_feeding, is_holding, is_feeding_or_holding, may_do_verb, may_arrive, may_stop, may_finish, waits_or_sleeps, is_idle, is_unit_idle, is_terminal_idle, is_path_open, feed_of}
+use Rattle.com_state.specs.Steps.{step, unit_step, terminal_step, verb, start, schedule_of, is_dormant, is_running, is_waiting_for, is_feeding, is_holding, is_feeding_or_holding, may_do_verb, waits_or_sleeps, is_idle, is_unit_idle, is_terminal_idle, is_path_open, feed_of}
 use Rattle.com_state.specs.Laws.{is_idle_call}
 use Rattle.com_events.specs.declared.reply.Reply.TheVariants.{AreaIn}
 use Rattle.com_recv.specs.Receiving.{count}

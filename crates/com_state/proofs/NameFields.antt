@@ -39,3 +39,8 @@ one_width_more names i name wide twelve within read =
 -- a field's place in the fields is as wide as a field
 pub place_width : (fields : List ℕ) (i width : ℕ) → length fields ≡ 48 → i < 4 → width ≡ 12 → length (take width (drop (i * 12) fields)) ≡ 12
 place_width fields i width long few twelve = rw twelve (length-take-le 12 (drop (i * 12) fields) (omega (arith, length-drop (i * 12) fields, long, few)))
+
+-- with a field in the place of another the fields are as long as before
+pub still_long : (fields value : List ℕ) (i width : ℕ) → length fields ≡ 48 → i < 4 → length value ≡ 12 → width ≡ 12 → length (take (i * 12) fields ++ (value ++ drop width (drop (i * 12) fields))) ≡ 48
+still_long fields value i width long few wide twelve =
+    rw twelve (omega (arith, length-append (take (i * 12) fields) (value ++ drop 12 (drop (i * 12) fields)), length-append value (drop 12 (drop (i * 12) fields)), length-take-le (i * 12) fields (omega (arith, long, few)), length-drop 12 (drop (i * 12) fields), length-drop (i * 12) fields, long, few, wide))

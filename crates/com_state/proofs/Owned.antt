@@ -1,14 +1,13 @@
 -- What a step does to the party that makes it, and to no other.
-use Rattle.std.proofs.Common.{◌≡◌, ◌≢◌, ℕ, ◌+◌, ◌<◌, ◌≤◌, Bool, true, false, ◌&&◌, nat_lt, List, [], ◌∷◌, Some, None, Option, refl, sym, ap, subst, ◌∙◌, inl, inr, arith}
-use Rattle.std.specs.Prelude.{◌||◌, is_none, slice_get, slice_set, option_map}
+use Rattle.std.proofs.Common.{◌≡◌, ◌≢◌, ℕ, ◌+◌, ◌<◌, ◌≤◌, Bool, true, ◌&&◌, nat_lt, List, Some, None, Option, refl, sym, ap, subst, ◌∙◌, inl, inr, arith}
+use Rattle.std.specs.Prelude.{◌||◌, is_none, slice_get, slice_set}
 use Rattle.std.proofs.Math.Path.{fun_ext}
-use Rattle.std.proofs.lemmas.Bool.{cases_Bool, and_parts, false≢true, ltb-true}
+use Rattle.std.proofs.lemmas.Bool.{cases_Bool, and_parts, ltb-true}
 use Rattle.std.proofs.lemmas.Option.{none-some, same_Some}
 use Rattle.com_msg.specs.declared.rest.Kind.{Kind}
 use Rattle.com_msg.specs.Stamp.{Moment}
 use Rattle.com_msg.specs.declared.message.RawMessage.{RawMessage}
 use Rattle.com_tree.specs.declared.tree.Node.{Node}
-use Rattle.com_net.specs.declared.net.Feed.{Feed}
 use Rattle.com_events.specs.declared.call.Call.{Call}
 use Rattle.com_events.specs.declared.call.Call.TheVariants as made
 use Rattle.com_events.specs.declared.reply.Reply.{Reply}
@@ -19,8 +18,6 @@ use Rattle.com_recv.specs.declared.queues.Taken.TheVariants as taken
 use Rattle.com_recv.specs.Areas.{path_of_leaf}
 use Rattle.com_recv.specs.Incoming.{designated, chosen_leaf}
 use Rattle.com_recv.specs.Receiving.{receive, count}
-use Rattle.com_send.specs.Sending.{send}
-use Rattle.com_send.specs.Switching.{switch_output}
 use Rattle.com_state.specs.declared.parties.TheConstants.{MAX_VERBS, MAX_ARRIVALS}
 use Rattle.com_state.specs.declared.parties.UnitMode.{UnitMode}
 use Rattle.com_state.specs.declared.parties.UnitMode.TheVariants.{Running, WaitingFor, Stopped}
@@ -28,15 +25,15 @@ use Rattle.com_state.specs.declared.parties.UnitState.{UnitState}
 use Rattle.com_state.specs.declared.parties.TerminalMode.{TerminalMode}
 use Rattle.com_state.specs.declared.parties.TerminalMode.TheVariants.{Holding, Ended}
 use Rattle.com_state.specs.declared.parties.TerminalState.{TerminalState}
-use Rattle.com_state.specs.State.{State, destinations_of, unit_mode}
-use Rattle.com_state.specs.Answers.{is_ready, reply_of, received, answered}
+use Rattle.com_state.specs.State.{State, unit_mode}
+use Rattle.com_state.specs.Answers.{is_ready, reply_of}
 use Rattle.com_state.specs.Switches.{switch_input}
-use Rattle.com_state.specs.Steps.{unit_step, terminal_step, next_if, with_reply, with_verb, with_arrival, with_unit_mode, with_terminal_mode, verb, start, schedule_of, receive_running, step_receive, is_waiting_for, is_running, is_dormant, may_do_verb, may_arrive, may_stop, stop_unit, arrive, feed_of}
+use Rattle.com_state.specs.Steps.{unit_step, terminal_step, with_reply, with_verb, with_arrival, with_unit_mode, with_terminal_mode, verb, start, schedule_of, receive_running, step_receive, is_waiting_for, is_running, is_dormant, may_do_verb, may_arrive, may_stop, stop_unit, arrive, feed_of}
 use Rattle.com_state.specs.Parties.{after_unit_call, after_terminal_call, after_receive, with_verb_done}
 use Rattle.com_state.proofs.Frames.{option_cases, next_if-Some}
 use Rattle.com_state.proofs.Places.{get_set_here, get_set_elsewhere}
 use Rattle.com_state.proofs.Receives.{next_if-true}
-use Rattle.com_state.proofs.Aside.{aside_answered, aside_switch_input}
+use Rattle.com_state.proofs.Aside.{aside_switch_input}
 use Rattle.com_state.proofs.Verbs.{receive_in, send_in, switch_output_in}
 
 -- the element at a place changed, where there is one

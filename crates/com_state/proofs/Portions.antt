@@ -1,5 +1,5 @@
 -- How long a portion is, and what START and ARRIVE are answered.
-use Rattle.std.proofs.Common.{◌≡◌, ℕ, ◌≤◌, Bool, ◌&&◌, Some, None, Option, List, [], ◌∷◌, length, take, inl, inr, subst, arith, nat_le}
+use Rattle.std.proofs.Common.{◌≡◌, ℕ, ◌≤◌, Bool, ◌&&◌, Some, None, Option, List, [], ◌∷◌, length, take, inl, inr, sym, subst, arith, nat_le}
 use Rattle.std.specs.Prelude.{◌||◌, is_none}
 use Rattle.std.specs.List.{concat}
 use Rattle.std.proofs.Math.ListN.{length-take}
@@ -12,16 +12,20 @@ use Rattle.com_msg.specs.declared.rest.Kind.{Kind}
 use Rattle.com_msg.specs.declared.rest.Kind.TheVariants.{Message, Segment}
 use Rattle.com_msg.specs.Portion.{portion, message_portion, segment_portion}
 use Rattle.com_tree.specs.declared.tree.Node.{Node}
+use Rattle.com_tree.specs.declared.tree.TreeRow.{TreeRow}
 use Rattle.com_events.specs.declared.call.Party.TheVariants as party
 use Rattle.com_events.specs.declared.call.Call.TheVariants as made
 use Rattle.com_events.specs.declared.reply.Reply.{Reply}
 use Rattle.com_events.specs.declared.reply.Reply.TheVariants.{Started, Given, Arrived}
 use Rattle.com_state.proofs.Frames.{option_cases, next_if-Some}
 use Rattle.com_state.specs.State.{State, unit_mode}
-use Rattle.com_state.specs.Answers.{is_ready}
+use Rattle.com_state.specs.Answers.{is_ready, reply_of, received, IsShort}
 use Rattle.com_state.specs.Steps.{is_dormant, is_running, may_do_verb, with_reply, feed_of, schedule_of, start, receive_running, is_waiting_for, step_receive, arrive, unit_step, terminal_step, step}
-use Rattle.com_recv.specs.Incoming.{designated, chosen_leaf}
-use Rattle.com_recv.specs.Receiving.{Next}
+use Rattle.com_msg.specs.declared.rest.TheConstants.{MAX_SIZE}
+use Rattle.com_recv.specs.declared.queues.Taken.{Taken}
+use Rattle.com_recv.specs.declared.queues.Taken.TheVariants as taken
+use Rattle.com_recv.specs.Incoming.{Incoming, designated, chosen_leaf}
+use Rattle.com_recv.specs.Receiving.{Next, Received, receive}
 use Rattle.com_state.proofs.Verbs.{receive_in, receive_next_in, next_in}
 use Rattle.com_state.proofs.StepCases.{step_of_unit, step_of_terminal}
 
@@ -127,3 +131,15 @@ only_arrived S next name area text stamp message h =
       | inl unfed ↦ none-some (Given area text, next) (rw (unfed, terminal_step) at its.2)
       | inr fed ↦ subst (λ (p : Reply × State). IsArrival p.0) (next_if-Some _ (arrive S its.0 name stamp message fed.0) (Given area text, next) (rw (fed.1, terminal_step) at its.2)) tt
     ]
+
+-- and that is what is taken by a RECEIVE
+short_of : (size : ℕ) (done : Taken) (after : List ℕ) → size ≤ MAX_SIZE → GivesUpTo size (reply_of done after) → IsShort done
+short_of size (taken.Given text) after few up = omega (arith, few, up)
+short_of size taken.NoData after few up = tt
+short_of size taken.Unknown after few up = tt
+
+pub short_taken : (S : State) (tree : List TreeRow) (incoming : Incoming) (unit : ℕ) (area : List ℕ) (kind : Kind) (size : ℕ) (done : Taken) (after : List ℕ) (left : Incoming) → size ≤ MAX_SIZE
+    → (done, after, left) ≡ receive tree incoming unit area kind size → IsShort done
+short_taken S tree incoming unit area kind size done after left few is =
+    let here : State = record S { net = record S.net { tree = tree }; incoming = incoming } in
+    short_of size done after few (subst (λ (found : Received). GivesUpTo size (received here found).0) (sym is) (up_to_receive here unit area kind size))

@@ -1,6 +1,6 @@
 -- What a party may do, where its own mode and count settle it.
-use Rattle.std.proofs.Common.{◌≡◌, ℕ, Bool, true, false, ◌&&◌, nat_lt, List, Some, None, Option, refl, sym, ap, ◌∙◌, inl, inr}
-use Rattle.std.specs.Prelude.{◌||◌, is_some, is_none, slice_get}
+use Rattle.std.proofs.Common.{◌≡◌, ℕ, Bool, true, false, nat_lt, List, Some, refl, sym, ap, ◌∙◌, inl, inr}
+use Rattle.std.specs.Prelude.{is_some, slice_get}
 use Rattle.std.proofs.lemmas.Bool.{cases_Bool}
 use Rattle.std.proofs.lemmas.Option.{none-some, same_Some}
 use Rattle.com_msg.specs.declared.rest.Kind.{Kind}
@@ -8,13 +8,11 @@ use Rattle.com_net.specs.Numbers.{unit_number, terminal_number}
 use Rattle.com_events.specs.declared.call.Party.TheVariants as party
 use Rattle.com_events.specs.declared.call.StopReason.{StopReason}
 use Rattle.com_events.specs.declared.call.StopReason.TheVariants as stop
-use Rattle.com_events.specs.declared.call.EndReason.{EndReason}
 use Rattle.com_events.specs.declared.call.EndReason.TheVariants as finish
 use Rattle.com_events.specs.declared.call.Call.{Call}
 use Rattle.com_events.specs.declared.call.Call.TheVariants as made
 use Rattle.com_events.specs.declared.reply.Reply.{Reply}
 use Rattle.com_events.specs.declared.reply.Reply.TheVariants.{AreaIn}
-use Rattle.com_recv.specs.Incoming.{designated}
 use Rattle.com_state.specs.declared.parties.TheConstants.{MAX_VERBS}
 use Rattle.com_state.specs.declared.parties.UnitMode.{UnitMode}
 use Rattle.com_state.specs.declared.parties.UnitMode.TheVariants.{Dormant, Running, WaitingFor, Stopped}
@@ -26,11 +24,10 @@ use Rattle.com_recv.specs.Receiving.{count}
 use Rattle.com_send.specs.Sending.{send}
 use Rattle.com_send.specs.Switching.{switch_output}
 use Rattle.com_state.specs.State.{State, destinations_of}
-use Rattle.com_state.specs.Answers.{is_ready, answered}
+use Rattle.com_state.specs.Answers.{answered}
 use Rattle.com_state.specs.Switches.{switch_input}
-use Rattle.com_state.specs.Steps.{step, unit_step, terminal_step, verb, may_do_verb, is_idle, feed_of, is_path_open, may_arrive}
+use Rattle.com_state.specs.Steps.{step, unit_step, terminal_step, verb, may_do_verb, is_idle, feed_of}
 use Rattle.com_state.specs.Parties.{is_free, may_by_unit, may_by_terminal}
-use Rattle.com_state.proofs.Frames.{option_cases}
 use Rattle.com_state.proofs.StepCases.{unit_steps, terminal_steps}
 use Rattle.com_state.proofs.Idling.{ended_calls}
 

@@ -1,5 +1,6 @@
 -- What the verbs of units are answered, and the state that they leave.
-use Rattle.std.specs.Prelude.{ℕ, Bool, List, option_and_then, is_some}
+use Rattle.std.specs.Prelude.{ℕ, ◌≤◌, Bool, List, length, option_and_then, is_some}
+use Rattle.com_msg.specs.declared.rest.TheConstants.{MAX_SIZE}
 use Rattle.com_events.specs.declared.reply.Reply.{Reply}
 use Rattle.com_events.specs.declared.reply.Reply.TheVariants.{Given, NoData, Refused, AreaOut}
 use Rattle.com_recv.specs.declared.queues.Taken.{Taken}
@@ -19,6 +20,12 @@ abbrev pub reply_of : Taken → List ℕ → Reply
 reply_of (taken.Given text) area = Given area text
 reply_of taken.NoData area = NoData area
 reply_of taken.Unknown area = Refused area
+
+-- a portion has no more characters than a RECEIVE may ask for
+abbrev pub IsShort : Taken → Type 0
+IsShort (taken.Given text) = length text ≤ MAX_SIZE
+IsShort taken.NoData = Unit {0}
+IsShort taken.Unknown = Unit {0}
 
 -- a RECEIVE changes what waits and what is held
 abbrev pub received : State → Received → Reply × State

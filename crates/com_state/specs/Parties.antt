@@ -1,19 +1,17 @@
 -- What the entries of one party tell of it.
-use Rattle.std.specs.Prelude.{ℕ, ◌+◌, Bool, true, false, ◌&&◌, nat_lt, List, Option, Some, None}
+use Rattle.std.specs.Prelude.{ℕ, ◌+◌, Bool, true, false, nat_lt, List, Option, Some, None}
 use Rattle.std.specs.List.{filter, fold}
 use Rattle.std.specs.Str.{bytes_eq}
 use Rattle.com_events.specs.declared.call.Party.{Party}
 use Rattle.com_events.specs.declared.call.Party.TheVariants as party
-use Rattle.com_events.specs.declared.call.StopReason.{StopReason}
 use Rattle.com_events.specs.declared.call.StopReason.TheVariants as stop
-use Rattle.com_events.specs.declared.call.EndReason.{EndReason}
 use Rattle.com_events.specs.declared.call.EndReason.TheVariants as finish
 use Rattle.com_events.specs.declared.call.Call.{Call}
 use Rattle.com_events.specs.declared.call.Call.TheVariants.{Start, Receive, Count, Send, SwitchInput, SwitchOutput, Arrive, Held, Stop, Finish}
 use Rattle.com_events.specs.declared.reply.Reply.{Reply}
 use Rattle.com_events.specs.declared.reply.Reply.TheVariants.{Waits}
 use Rattle.com_events.specs.declared.entry.Entry.{Entry}
-use Rattle.com_state.specs.declared.parties.TheConstants.{MAX_VERBS, MAX_ARRIVALS}
+use Rattle.com_state.specs.declared.parties.TheConstants.{MAX_VERBS}
 use Rattle.com_state.specs.declared.parties.UnitMode.{UnitMode}
 use Rattle.com_state.specs.declared.parties.UnitMode.TheVariants.{Dormant, Running, WaitingFor, Stopped}
 use Rattle.com_state.specs.declared.parties.UnitState.{UnitState}

@@ -1,6 +1,6 @@
 //! The one-thread system: a value that stands for a state of the model.
 ghost use Rattle.std.specs.Prelude.{◌≡◌, ◌<◌, length, map, replicate, Some, is_some, IsTrue, IfOk, OnErr, All};
-ghost use Rattle.com_events.specs.Calls.{IsWellFormed};
+ghost use Rattle.com_events.specs.Calls.{IsWellFormed, IsReplyTo};
 ghost use Rattle.com_msg.specs.Rendering.{IsRenderable};
 ghost use Rattle.com_send.specs.Outgoing.{transmitted_to};
 ghost use Rattle.com_state.specs.State.{opening, opening_unit, opening_terminal};
@@ -101,6 +101,7 @@ impl State {
         requires call { IsWellFormed call.now }
         ensures step { IfOk result (λ reply. step self.old party.now call.now
             ≡ Some (reply, self.new)) }
+        ensures reply { IfOk result (IsReplyTo call.now) }
         ensures err { OnErr result (self.new ≡ self.old) }
     {
         match party {

@@ -4,6 +4,7 @@ ghost use Rattle.std.specs.Prelude.{
   ◌<◌,
   ◌≤◌,
   ◌+◌,
+  ◌^◌,
   ◌++◌,
   ◌∷◌,
   [],
@@ -145,7 +146,8 @@ impl State {
 
     /// The number of the next message that arrives.
     pub(crate) fn next_number(&self) -> u64
-        ensures { result ≡ self.now.arrivals + 1 }
+        ensures next { result ≡ self.now.arrivals + 1 }
+        ensures few { (1 ≤ result) × (result < 10 ^ 18) }
     {
         self.arrivals + 1
     }

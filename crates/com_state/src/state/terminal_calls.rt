@@ -1,6 +1,6 @@
 //! The calls of terminals.
 ghost use Rattle.std.specs.Prelude.{◌≡◌, ◌<◌, ◌≤◌, length, Some, is_some, IsTrue, IfOk, OnErr};
-ghost use Rattle.com_events.specs.Calls.{IsWellFormed};
+ghost use Rattle.com_events.specs.Calls.{IsWellFormed, IsReplyTo};
 ghost use Rattle.com_events.specs.declared.call.Call.TheVariants as made;
 ghost use Rattle.com_state.specs.Steps.{terminal_step};
 
@@ -24,6 +24,7 @@ impl State {
         requires call { IsWellFormed call.now }
         ensures step { IfOk result (λ reply. terminal_step self.old terminal name.now call.now
             ≡ Some (reply, self.new)) }
+        ensures reply { IfOk result (IsReplyTo call.now) }
         ensures err { OnErr result (self.new ≡ self.old) }
     {
         match call {
@@ -61,6 +62,7 @@ impl State {
         requires segments { 1 ≤ length message.now.segments }
         ensures step { IfOk result (λ reply. terminal_step self.old terminal name.now
             (made.Arrive stamp message.now) ≡ Some (reply, self.new)) }
+        ensures reply { IfOk result (IsReplyTo (made.Arrive stamp message.now)) }
         ensures err { OnErr result (self.new ≡ self.old) }
     {
         let Some(leaf) = self.route(terminal) else {

@@ -16,7 +16,7 @@ ghost use Rattle.std.specs.Prelude.{
 ghost use Rattle.std.specs.Option.{option_copied};
 ghost use Rattle.com_msg.specs.Rendering.{IsAdvance};
 ghost use Rattle.com_cd.specs.Designation.{path_fields};
-ghost use Rattle.com_events.specs.Calls.{IsWellFormed};
+ghost use Rattle.com_events.specs.Calls.{IsWellFormed, IsReplyTo, AreNames};
 ghost use Rattle.com_events.specs.declared.call.Call.TheVariants as made;
 ghost use Rattle.com_recv.specs.Areas.{path_of_leaf};
 ghost use Rattle.com_recv.specs.Incoming.{chosen_leaf, without_unit};
@@ -41,6 +41,7 @@ impl State {
         requires call { IsWellFormed call.now }
         ensures step { IfOk result (λ reply. unit_step self.old unit call.now
             ≡ Some (reply, self.new)) }
+        ensures reply { IfOk result (IsReplyTo call.now) }
         ensures err { OnErr result (self.new ≡ self.old) }
     {
         match call {
@@ -73,7 +74,8 @@ impl State {
     fn start(&mut self, unit: u32) -> Reply
         requires unit { unit < length self.old.units }
         requires may { IsTrue (is_some (unit_step self.old unit made.Start)) }
-        ensures { unit_step self.old unit made.Start ≡ Some (result, self.new) }
+        ensures step { unit_step self.old unit made.Start ≡ Some (result, self.new) }
+        ensures reply { IsReplyTo made.Start result }
     {
         let names = self.names_at_start(unit);
         self.set_unit_mode(unit, UnitMode::Running);
@@ -83,10 +85,11 @@ impl State {
     /// The names of the leaf that the node of a unit's schedule chooses, where a message waits there.
     fn names_at_start(&self, unit: u32) -> Option<[u8; MAX_NAMES * FIELD_LENGTH]>
         requires { unit < length self.now.units }
-        ensures { result ≡ option_and_then (λ node.
+        ensures choice { result ≡ option_and_then (λ node.
             option_map (λ leaf. path_fields (path_of_leaf self.now.net.tree leaf))
             (chosen_leaf self.now.net.tree self.now.incoming.waiting node))
             (schedule_of self.now.net unit) }
+        ensures names { IfSome result AreNames }
     {
         match self.schedule(unit) {
             Some(node) => self.names_of_choice(node),
@@ -97,8 +100,9 @@ impl State {
     /// The names of the leaf that a node chooses, where a message waits under it.
     fn names_of_choice(&self, node: Node) -> Option<[u8; MAX_NAMES * FIELD_LENGTH]>
         requires { node.row < length self.now.net.tree }
-        ensures { result ≡ option_map (λ leaf. path_fields (path_of_leaf self.now.net.tree leaf))
+        ensures choice { result ≡ option_map (λ leaf. path_fields (path_of_leaf self.now.net.tree leaf))
             (chosen_leaf self.now.net.tree self.now.incoming.waiting node) }
+        ensures names { IfSome result AreNames }
     {
         match self.queues.choice(&self.net.tree, node) {
             Some(leaf) => Some(fields_of(&self.net.tree.path(leaf))),
@@ -121,6 +125,7 @@ impl State {
         requires size { (1 ≤ size) × (size ≤ MAX_SIZE) }
         ensures step { IfOk result (λ reply. unit_step self.old unit
             (made.Receive area.now kind size no_data) ≡ Some (reply, self.new)) }
+        ensures reply { IfOk result (IsReplyTo (made.Receive area.now kind size no_data)) }
         ensures err { OnErr result (self.new ≡ self.old) }
     {
         if self.has_to_wait(unit, area, no_data) {
@@ -141,7 +146,8 @@ impl State {
     fn count(&mut self, unit: u32, area: InArea) -> Reply
         requires unit { unit < length self.old.units }
         requires may { IsTrue (is_some (unit_step self.old unit (made.Count area))) }
-        ensures { unit_step self.old unit (made.Count area) ≡ Some (result, self.new) }
+        ensures step { unit_step self.old unit (made.Count area) ≡ Some (result, self.new) }
+        ensures reply { IsReplyTo (made.Count area) result }
     {
         let area = self.counted(area);
         self.verb_done(unit);
@@ -162,6 +168,7 @@ impl State {
             (made.Send area part (option_copied from)))) }
         ensures step { IfOk result (λ reply. unit_step self.old unit
             (made.Send area part (option_copied from.entry)) ≡ Some (reply, self.new)) }
+        ensures reply { IfOk result (IsReplyTo (made.Send area part (option_copied from.entry))) }
         ensures err { OnErr result (self.new ≡ self.old) }
     {
         let reply = self.send_part(unit, area, part, from)?;
@@ -181,8 +188,9 @@ impl State {
         requires unit { unit < length self.old.units }
         requires may { IsTrue (is_some (unit_step self.old unit
             (made.SwitchInput on terminal area key.now))) }
-        ensures { unit_step self.old unit (made.SwitchInput on terminal area key.now)
+        ensures step { unit_step self.old unit (made.SwitchInput on terminal area key.now)
             ≡ Some (result, self.new) }
+        ensures reply { IsReplyTo (made.SwitchInput on terminal area key.now) result }
     {
         let reply = self.switch_flags(on, terminal, area, key);
         self.verb_done(unit);
@@ -202,6 +210,7 @@ impl State {
             (made.SwitchOutput on area key.now))) }
         ensures step { IfOk result (λ reply. unit_step self.old unit
             (made.SwitchOutput on area key.now) ≡ Some (reply, self.new)) }
+        ensures reply { IfOk result (IsReplyTo (made.SwitchOutput on area key.now)) }
         ensures err { OnErr result (self.new ≡ self.old) }
     {
         let reply = self.switch_destinations(on, area, key)?;
@@ -226,7 +235,8 @@ impl State {
 
 /// The four name fields of a path.
 fn fields_of(path: &NamePath) -> [u8; MAX_NAMES * FIELD_LENGTH]
-    ensures { result ≡ path_fields path.now }
+    ensures fields { result ≡ path_fields path.now }
+    ensures names { AreNames result }
 {
     let mut fields = [b' '; MAX_NAMES * FIELD_LENGTH];
     for (level, name) in path.names().iter().enumerate() {

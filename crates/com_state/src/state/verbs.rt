@@ -4,6 +4,9 @@ ghost use Rattle.std.specs.Prelude.{
   ◌<◌,
   ◌≤◌,
   ◌||◌,
+  ℕ,
+  List,
+  Bool,
   true,
   false,
   not,
@@ -18,6 +21,10 @@ ghost use Rattle.std.specs.Option.{option_copied};
 ghost use Rattle.com_msg.specs.Rendering.{IsAdvance};
 ghost use Rattle.com_tree.specs.Places.{top_of};
 ghost use Rattle.com_events.specs.declared.reply.Reply.TheVariants as reply;
+ghost use Rattle.com_events.specs.declared.call.Call.TheVariants as made;
+ghost use Rattle.com_events.specs.Calls.{IsReplyTo};
+ghost use Rattle.com_cd.specs.OutputArea.{IsOutputArea};
+ghost use Rattle.com_msg.specs.declared.rest.Kind.{Kind as AKind};
 ghost use Rattle.com_recv.specs.Areas.{with_status};
 ghost use Rattle.com_recv.specs.Incoming.{designated};
 ghost use Rattle.com_recv.specs.Receiving.{receive, count};
@@ -25,7 +32,7 @@ ghost use Rattle.com_send.specs.Found.{destination_with};
 ghost use Rattle.com_send.specs.Sending.{send, advance_of};
 ghost use Rattle.com_send.specs.Switching.{switch_output};
 ghost use Rattle.com_state.specs.State.{destinations_of};
-ghost use Rattle.com_state.specs.Answers.{is_ready, received, answered};
+ghost use Rattle.com_state.specs.Answers.{is_ready, reply_of, IsShort, received, answered};
 ghost use Rattle.com_state.specs.Switches.{switch_input, set_between, is_key};
 
 use crate::state::State;
@@ -69,16 +76,13 @@ impl State {
         requires { (1 ≤ size) × (size ≤ MAX_SIZE) }
         ensures taken { IfOk result (λ reply. (reply, self.new) ≡ received self.old
             (receive self.old.net.tree self.old.incoming unit area kind size)) }
+        ensures reply { (no_data : Bool) → IfOk result (IsReplyTo (made.Receive area kind size no_data)) }
         ensures err { OnErr result (self.new ≡ self.old) }
     {
         let taken = self
             .queues
             .receive(&self.net.tree, unit, &mut area, kind, size)?;
-        Ok(match taken {
-            Taken::Given(text) => Reply::Given { area, text },
-            Taken::NoData => Reply::NoData { area },
-            Taken::Unknown => Reply::Refused { area },
-        })
+        Ok(receive_told(taken, area))
     }
 
     /// The area that tells how many messages wait.
@@ -102,10 +106,11 @@ impl State {
         ensures sent { IfOk result (λ reply. (reply, self.new) ≡ answered self.old
             (send (destinations_of self.old.net) self.old.outgoing unit area part
             (option_copied from.entry))) }
+        ensures reply { IfOk result (IsReplyTo (made.Send area part (option_copied from.entry))) }
         ensures err { OnErr result (self.new ≡ self.old) }
     {
         self.outs.send(unit, &mut area, part, from)?;
-        Ok(Reply::AreaOut { area })
+        Ok(output_told(area))
     }
 
     /// ENABLE and DISABLE OUTPUT. Without memory nothing changes.
@@ -117,10 +122,11 @@ impl State {
     ) -> Result<Reply, AllocError>
         ensures switched { IfOk result (λ reply. (reply, self.new) ≡ answered self.old
             (switch_output (destinations_of self.old.net) self.old.outgoing on area key.now)) }
+        ensures reply { IfOk result (IsReplyTo (made.SwitchOutput on area key.now)) }
         ensures err { OnErr result (self.new ≡ self.old) }
     {
         self.outs.switch(on, &mut area, key)?;
-        Ok(Reply::AreaOut { area })
+        Ok(output_told(area))
     }
 
     /// ENABLE and DISABLE INPUT, where TERMINAL is written or not.
@@ -131,7 +137,8 @@ impl State {
         area: InArea,
         key: &Text,
     ) -> Reply
-        ensures { (result, self.new) ≡ switch_input self.old on terminal area key.now }
+        ensures switched { (result, self.new) ≡ switch_input self.old on terminal area key.now }
+        ensures reply { IsReplyTo (made.SwitchInput on terminal area key.now) result }
     {
         if terminal {
             self.switch_terminal(on, area, key)
@@ -143,7 +150,8 @@ impl State {
     /// ENABLE and DISABLE INPUT without TERMINAL: the leaves under the node that the area designates.
     /// 20 where it designates none, 40 where the key is not the password of the node's tree.
     fn switch_leaves(&mut self, on: bool, area: InArea, key: &Text) -> Reply
-        ensures { (result, self.new) ≡ switch_input self.old on false area key.now }
+        ensures switched { (result, self.new) ≡ switch_input self.old on false area key.now }
+        ensures reply { IsReplyTo (made.SwitchInput on false area key.now) result }
     {
         let Some(node) = designated(&self.net.tree, &area) else {
             return told(area, Status::S20);
@@ -159,7 +167,8 @@ impl State {
     /// ENABLE and DISABLE INPUT TERMINAL: the terminal that SYMBOLIC SOURCE names. 20 where there is
     /// none, 40 where the key is not its password.
     fn switch_terminal(&mut self, on: bool, area: InArea, key: &Text) -> Reply
-        ensures { (result, self.new) ≡ switch_input self.old on true area key.now }
+        ensures switched { (result, self.new) ≡ switch_input self.old on true area key.now }
+        ensures reply { IsReplyTo (made.SwitchInput on true area key.now) result }
     {
         let Some(terminal) = place_of(self.outs.destinations(), area.get(InField::Source)) else {
             return told(area, Status::S20);
@@ -184,10 +193,33 @@ impl State {
 
 /// The reply with an area that tells a status key.
 fn told(mut area: InArea, status: Status) -> Reply
-    ensures { result ≡ reply.AreaIn (with_status status area) }
+    ensures told { result ≡ reply.AreaIn (with_status status area) }
+    ensures area { IsReplyTo (made.Count area) result }
 {
     area.set(InField::Status, &status.bytes());
     Reply::AreaIn { area }
+}
+
+/// The reply with an area after SEND, ENABLE OUTPUT and DISABLE OUTPUT.
+fn output_told(area: OutArea) -> Reply
+    ensures told { result ≡ reply.AreaOut area }
+    ensures area { IsOutputArea area }
+{
+    Reply::AreaOut { area }
+}
+
+/// The reply to a RECEIVE, by what was taken and what the area tells.
+fn receive_told(taken: Taken, area: InArea) -> Reply
+    requires { IsShort taken }
+    ensures told { result ≡ reply_of taken area }
+    ensures fits { (before : List ℕ) (kind : AKind) (size : ℕ) (no_data : Bool) →
+        IsReplyTo (made.Receive before kind size no_data) result }
+{
+    match taken {
+        Taken::Given(text) => Reply::Given { area, text },
+        Taken::NoData => Reply::NoData { area },
+        Taken::Unknown => Reply::Refused { area },
+    }
 }
 
 /// The place of the destination whose name a field holds.

@@ -1,4 +1,4 @@
-use Rattle.std.proofs.Common.{ap, sym, ◌∙◌}
+use Rattle.std.proofs.Common.{ap, ◌∙◌}
 use Rattle.com_events.specs.declared.call.Party.TheVariants as party
 use Rattle.com_net.specs.Numbers.{unit_number, terminal_number}
 use Rattle.com_state.specs.Parties.{entries_of, unit_by, terminal_by}

@@ -4,12 +4,12 @@ use Rattle.com_state.specs.Inside.{system}
 use Rattle.com_state.proofs.Doing.{names_chosen, no_names_chosen}
 use Rattle.com_state.proofs.state.State.names_of_choice.Goals as goal
 
-pub returns-in-Some : goal.returns-in-Some
-returns-in-Some c =
+pub returns-in-Some-clause-choice : goal.returns-in-Some-clause-choice
+returns-in-Some-clause-choice c =
     let entered = ap (λ (i : Inside). system i) c.self-inside.view_is ∙ c.self.view_is in
-    names_chosen entered c.args.node c.in-Some.leaf.number c.path.result c.fields_of.result c.in-Some.ensures.leaf c.path.ensures c.fields_of.ensures
+    names_chosen entered c.args.node c.in-Some.leaf.number c.path.result c.fields_of.result c.in-Some.ensures.leaf c.path.ensures c.fields_of.ensures.fields
 
-pub returns-in-None : goal.returns-in-None
-returns-in-None c =
+pub returns-in-None-clause-choice : goal.returns-in-None-clause-choice
+returns-in-None-clause-choice c =
     let entered = ap (λ (i : Inside). system i) c.self-inside.view_is ∙ c.self.view_is in
     no_names_chosen entered c.args.node c.in-None.ensures.leaf

@@ -4,3 +4,6 @@ use Rattle.com_state.proofs.state.State.next_number.Goals as goal
 
 pub overflow_add-result : goal.overflow_add-result
 overflow_add-result c = omega (arith, arrivals_bounded c.self.invariant.system)
+
+pub returns-clause-few : goal.returns-clause-few
+returns-clause-few c = (omega arith, omega (arith, arrivals_bounded c.self.invariant.system))

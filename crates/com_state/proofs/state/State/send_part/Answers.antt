@@ -10,6 +10,7 @@ use Rattle.com_state.proofs.state.State.send_part.Goals as goal
 pub returns-clause-sent : goal.returns-clause-sent
 returns-clause-sent c =
     let item = option_copied c.args.from in
-    ap (λ (answer : Answer). answered (system c.self.inside) answer)
+    rw c.output_told.ensures.told
+    (ap (λ (answer : Answer). answered (system c.self.inside) answer)
     (c.in_ok-send.ensures.sent ∙ ap (λ (destinations : List Destination). send destinations c.self.inside.outs.outgoing c.args.unit c.args.area c.args.part item) c.self.invariant.destinations)
-    ∙ ap (λ (S : State). answered S (send (destinations_of S.net) S.outgoing c.args.unit c.args.area c.args.part item)) c.self.view_is
+    ∙ ap (λ (S : State). answered S (send (destinations_of S.net) S.outgoing c.args.unit c.args.area c.args.part item)) c.self.view_is)

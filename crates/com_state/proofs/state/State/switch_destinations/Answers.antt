@@ -9,6 +9,7 @@ use Rattle.com_state.proofs.state.State.switch_destinations.Goals as goal
 
 pub returns-clause-switched : goal.returns-clause-switched
 returns-clause-switched c =
-    ap (λ (answer : Answer). answered (system c.self.inside) answer)
+    rw c.output_told.ensures.told
+    (ap (λ (answer : Answer). answered (system c.self.inside) answer)
     (c.in_ok-switch.ensures.switched ∙ ap (λ (destinations : List Destination). switch_output destinations c.self.inside.outs.outgoing c.args.on c.args.area c.args.key.now) c.self.invariant.destinations)
-    ∙ ap (λ (S : State). answered S (switch_output (destinations_of S.net) S.outgoing c.args.on c.args.area c.args.key.now)) c.self.view_is
+    ∙ ap (λ (S : State). answered S (switch_output (destinations_of S.net) S.outgoing c.args.on c.args.area c.args.key.now)) c.self.view_is)
