@@ -16,7 +16,7 @@ use Rattle.com_journal.specs.Journals.{journal_header, ended, AreLines, IsJourna
 use Rattle.com_journal.specs.Scripts.{lines_of, script_header, AreCalls}
 use Rattle.com_journal.specs.Writing.{with_entry}
 use Rattle.com_journal.specs.Faults.{IsFirstLine, IsJournalFault, Tells}
-use Rattle.com_journal.specs.Loops.{HasRead, IsRefusedAt, IsRefusedBehind, IsNoCall, IsBadScriptHeader, HasReadCalls, IsBadCallBehind}
+use Rattle.com_journal.specs.Loops.{HasRead, IsRefusedAt, IsRefusedBehind, IsNoCall, HasReadCalls, IsBadCallBehind}
 use Rattle.com_journal.proofs.LineLaws.{line_spelled, spelled-line, with_entry-line}
 use Rattle.com_journal.proofs.JournalLaws.{ended-append, lines-append}
 use Rattle.com_journal.proofs.FirstLines.{one_first_line, lines-first}
@@ -80,9 +80,9 @@ pub wrong_header : (bytes line rest : List ℕ) (is_ended : Bool) → IsFirstLin
 wrong_header bytes line rest is_ended first other =
     record { at = refl; refused = (refl, λ text ended more is same. other (one_first_line bytes line text rest more is_ended ended first is ∙ same)) }
 
-pub wrong_script_header : (bytes line rest : List ℕ) (is_ended : Bool) → IsFirstLine bytes line is_ended rest → (line ≡ script_header → ⊥) → IsBadScriptHeader bytes (record { line = 1; kind = BadHeader })
-wrong_script_header bytes line rest is_ended first other =
-    record { at = refl; kind = refl; none = λ lines h. other (same_first (sym (lines-first bytes line rest is_ended first) ∙ h)) }
+-- bytes whose first line is another are no script
+pub no_script_header : (bytes line rest : List ℕ) (is_ended : Bool) → IsFirstLine bytes line is_ended rest → (line ≡ script_header → ⊥) → (lines : List (List ℕ)) → lines_of bytes ≡ script_header ∷ lines → ⊥
+no_script_header bytes line rest is_ended first other lines h = other (same_first (sym (lines-first bytes line rest is_ended first) ∙ h))
 
 pub bad_line : (bytes left : List ℕ) (e : JournalError) → bytes ≡ journal_header ++ 10 ∷ left → Tells (IsRefusedBehind left) e → Tells (IsJournalFault bytes) e
 bad_line bytes left (error.Refused fault) e r = record {

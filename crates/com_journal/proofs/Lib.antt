@@ -7,11 +7,11 @@ mod FieldLaws
 mod WordLaws
 mod CallLaws
 mod ReplyLaws
-mod LineLaws
+pub mod LineLaws
 mod Plain
-mod JournalLaws
+pub mod JournalLaws
 mod WorkedLines
-mod FirstLines
+pub mod FirstLines
 mod Exact
 mod ScriptLaws
 mod Found

@@ -7,12 +7,15 @@ use Rattle.com_text.specs.Counted.{counted_field}
 use Rattle.com_text.specs.Name.{IsName, is_name}
 use Rattle.com_events.specs.declared.call.Party.{Party}
 use Rattle.com_events.specs.declared.call.Party.TheVariants as party
+use Rattle.com_events.specs.declared.call.EndReason.{EndReason}
+use Rattle.com_events.specs.declared.call.EndReason.TheVariants as finish
 use Rattle.com_events.specs.declared.call.Call.{Call}
 use Rattle.com_events.specs.declared.reply.Reply.{Reply}
 use Rattle.com_events.specs.declared.reply.Reply.TheVariants.{Started, Given, NoData, Refused, Waits, AreaIn, AreaOut, Arrived, Done}
 use Rattle.com_events.specs.declared.entry.Entry.{Entry}
 use Rattle.com_events.specs.Calls.{IsCallOf, IsWellFormed, HasText}
-use Rattle.com_journal.specs.Lines.{call_fields, reply_fields, call_text, reply_text, IsCallText, IsLine}
+use Rattle.com_journal.specs.Words.{frame_word}
+use Rattle.com_journal.specs.Lines.{spaced, end_fields, call_fields, reply_fields, call_text, reply_text, IsCallText, IsLine}
 use Rattle.com_journal.specs.Writing.{written, party_sort, party_name, with_entry}
 use Rattle.com_journal.specs.Reading.{word_at, expected, first_at, name_of, party_of, party_at, verb_behind, call_at, reply_at, end_at, call_of, entry_of}
 use Rattle.com_journal.proofs.Options.{step}
@@ -203,3 +206,11 @@ with_entry-line bytes entry =
     ∙ (ap (λ xs. start ++ xs) (spelled-rest fields (spelled last []))
     ∙ (append_assoc (bytes ++ sort ∷ []) (32 ∷ name) (spelled fields (spelled last []))
     ∙ append_assoc bytes (sort ∷ []) (32 ∷ (name ++ spelled fields (spelled last [])))))))
+
+-- why a terminal ends, behind a space
+pub end_spelled : (reason : EndReason) → spelled (end_fields reason) [] ≡ 32 ∷ spaced (end_fields reason)
+end_spelled finish.End = refl
+end_spelled finish.Fault = refl
+end_spelled finish.Long = refl
+end_spelled finish.Idle = refl
+end_spelled (finish.Frame fault) = ap (λ xs. 32 ∷ xs) (sym (spaced-spelled (codes "FRAME") (frame_word fault.kind ∷ decimal fault.at ∷ [])))

@@ -10,7 +10,7 @@ use Rattle.com_journal.specs.declared.fault.JournalError.{JournalError}
 use Rattle.com_journal.specs.declared.fault.JournalError.TheVariants as error
 use Rattle.com_journal.specs.Lines.{IsCallText, IsLine}
 use Rattle.com_journal.specs.Journals.{ended, AreLines}
-use Rattle.com_journal.specs.Scripts.{lines_of, script_header, AreCalls}
+use Rattle.com_journal.specs.Scripts.{lines_of, AreCalls}
 use Rattle.com_journal.specs.Faults.{IsRefusedLine}
 
 abbrev pub IsMemory : JournalError → Type 0
@@ -54,12 +54,6 @@ pub record IsNoCall (number : ℕ) (line : List ℕ) (fault : JournalFault) : Ty
   pub at : fault.line ≡ number
   pub kind : fault.kind ≡ BadLine
   pub none : (party : Party) (call : Call) → IsCallText party call line → ⊥
-
--- the first line is not the header of a script
-pub record IsBadScriptHeader (bytes : List ℕ) (fault : JournalFault) : Type 0 where
-  pub at : fault.line ≡ 1
-  pub kind : fault.kind ≡ BadHeader
-  pub none : (lines : List (List ℕ)) → lines_of bytes ≡ script_header ∷ lines → ⊥
 
 -- behind the header, the lines are these calls, and those that are left
 pub record HasReadCalls (bytes : List ℕ) (calls : List (Party × Call)) (number : ℕ) (rest : List ℕ) : Type 0 where

@@ -1,5 +1,5 @@
 //! Journals, written and read.
-ghost use Rattle.std.specs.Prelude.{◌≡◌, ◌++◌, ◌+◌, ◌∷◌, ◌≤◌, ◌↔◌, ◌<◌, ◌^◌, ℕ, List, All, length, true, IsTrue, IfOk, IfErr, OnOk, MatchResult};
+ghost use Rattle.std.specs.Prelude.{◌≡◌, ◌++◌, ◌+◌, ◌∷◌, [], ◌≤◌, ◌↔◌, ◌<◌, ◌^◌, ℕ, List, All, length, true, IsTrue, IfOk, IfErr, OnOk, MatchResult};
 ghost use Rattle.com_events.specs.declared.entry.Entry.{Entry as AnEntry};
 ghost use Rattle.com_events.specs.Calls.{HasText};
 ghost use Rattle.com_journal.specs.declared.fault.JournalFault.{JournalFault as AFault};
@@ -32,6 +32,17 @@ pub fn write(alloc: Global, entries: &[Entry]) -> Result<Rows<u8>, AllocError>
         out.extend_from_slice(b"\n")?;
     }
     Ok(out)
+}
+
+/// Adds the line of an entry that has a text, with its line feed. Without memory a front of it may
+/// have been added.
+pub fn write_entry(entry: &Entry, into: &mut Rows<u8>) -> Result<(), AllocError>
+    requires { HasText entry.now }
+    ensures { OnOk result ((line : List ℕ) × IsLine entry.now line
+        × (into.new ≡ into.old ++ (line ++ 10 ∷ []))) }
+{
+    entry::put(into, entry)?;
+    into.extend_from_slice(b"\n")
 }
 
 /// The entries of a journal, or the fault of the first line that is refused.

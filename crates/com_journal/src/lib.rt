@@ -8,6 +8,10 @@
 //! An entry has one line and a line one entry, and no line begins another, so bytes are the journal
 //! of one history at most ([`a_journal_is_of_one_history`] and the laws beside it).
 //!
+//! For texts that are too long to be kept as values, [`write_entry`] adds one line to a journal, and
+//! [`script_lines`] gives the lines of a script one by one. [`write_stop`] and [`write_finish`] add why
+//! a unit stopped and why a terminal ended, as the lines of STOP and END have it.
+//!
 //! ```rust
 //! use com_journal::{call_line, read, write};
 //!
@@ -26,6 +30,7 @@ mod journal;
 mod laws;
 mod line;
 mod put;
+mod reasons;
 mod receive;
 mod reply;
 mod script;
@@ -35,10 +40,13 @@ mod switch;
 mod words;
 
 pub use fault::{JournalError, JournalFault, JournalKind};
-pub use journal::{read, write};
+pub use journal::{read, write, write_entry};
 pub use laws::{
     a_journal_has_no_fault, a_journal_is_of_one_history, a_line_is_of_one_entry,
     a_text_is_of_one_call, an_entry_has_one_line, each_entry_has_a_line, no_line_begins_another,
     one_fault_is_told,
 };
-pub use script::{call_line, read_calls};
+pub use reasons::{write_finish, write_stop};
+pub use script::{call_line, read_calls, script_lines};
+pub use split::{Lines, TextLine};
+pub use words::{end_word, frame_word};

@@ -1,12 +1,12 @@
 //! The calls of scripts.
-ghost use Rattle.std.specs.Prelude.{◌≡◌, ◌∷◌, ◌++◌, ◌↔◌, ◌<◌, ◌^◌, ℕ, List, length, IsTrue, IfOk, IfErr, IfSome, OnOk, Some, MatchResult};
+ghost use Rattle.std.specs.Prelude.{◌≡◌, ◌∷◌, ◌++◌, ◌↔◌, ◌<◌, ◌^◌, ℕ, List, length, IsTrue, IfOk, IfErr, IfSome, IfNone, Some, MatchResult};
 ghost use Rattle.com_events.specs.declared.call.Party.{Party as AParty};
 ghost use Rattle.com_events.specs.declared.call.Call.{Call as ACall};
 ghost use Rattle.com_journal.specs.declared.fault.JournalFault.{JournalFault as AFault};
 ghost use Rattle.com_journal.specs.Lines.{IsCallText};
 ghost use Rattle.com_journal.specs.Scripts.{IsScript, AreCalls, lines_of, script_header};
 ghost use Rattle.com_journal.specs.Faults.{Tells, IsScriptFault, IsFirstLine};
-ghost use Rattle.com_journal.specs.Loops.{IsNoCall, IsBadCallBehind, IsBadScriptHeader, IsMemory};
+ghost use Rattle.com_journal.specs.Loops.{IsNoCall, IsBadCallBehind, IsMemory};
 ghost use Rattle.com_journal.specs.Outcomes.{Is, IsOutOfMemory};
 
 use crate::journal::refused;
@@ -34,6 +34,25 @@ pub fn call_line(alloc: Global, bytes: &[u8]) -> Result<Option<(Party, Call)>, A
     }
 }
 
+/// The lines of a script behind its header. None exactly where the first line is not the header.
+pub fn script_lines(bytes: &[u8]) -> Option<Lines<'_>>
+    ensures lines { IfSome result
+        (λ lines. lines_of bytes.now ≡ script_header ∷ lines_of lines) }
+    ensures shorter { IfSome result (λ lines. length lines < length bytes.now) }
+    ensures none { IfNone result
+        ((lines : List (List ℕ)) → lines_of bytes.now ≡ script_header ∷ lines → ⊥) }
+{
+    let mut lines = Lines::new(bytes);
+    let Some(line) = lines.next_line() else {
+        return None;
+    };
+    if is_header(line.text) {
+        Some(lines)
+    } else {
+        None
+    }
+}
+
 /// The calls of a script, in order, or the fault of the first line that is refused.
 pub fn read_calls(alloc: Global, bytes: &[u8]) -> Result<Rows<(Party, Call)>, JournalError>
     // What is read are the script's calls, and a fault is that of the bytes.
@@ -52,24 +71,10 @@ fn read_script(alloc: Global, bytes: &[u8]) -> Result<Rows<(Party, Call)>, Journ
     ensures read { IfOk result (λ calls. IsScript calls bytes.now) }
     ensures refused { IfErr result (Tells (IsScriptFault bytes.now)) }
 {
-    let mut lines = Lines::new(bytes);
-    pass_header(&mut lines)?;
-    read_lines(alloc, &mut lines)
-}
-
-/// Passes the header.
-fn pass_header(lines: &mut Lines<'_>) -> Result<(), JournalError>
-    ensures passed { OnOk result (lines_of lines.old ≡ script_header ∷ lines_of lines.new) }
-    ensures shorter { OnOk result (length lines.new < length lines.old) }
-    ensures refused { IfErr result (Tells (IsBadScriptHeader lines.old)) }
-{
-    let Some(line) = lines.next_line() else {
+    let Some(mut lines) = script_lines(bytes) else {
         return Err(refused(1, JournalKind::BadHeader));
     };
-    if !is_header(line.text) {
-        return Err(refused(1, JournalKind::BadHeader));
-    }
-    Ok(())
+    read_lines(alloc, &mut lines)
 }
 
 fn is_header(line: &[u8]) -> bool

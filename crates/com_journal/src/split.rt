@@ -8,15 +8,15 @@ use std::marker::Model;
 
 /// A line without its line feed.
 #[derive(Clone, Copy)]
-pub(crate) struct TextLine<'a> {
-    pub(crate) text: &'a [u8],
+pub struct TextLine<'a> {
+    pub text: &'a [u8],
     /// Whether a line feed stands behind it.
-    pub(crate) is_ended: bool,
+    pub is_ended: bool,
 }
 
-/// The lines that are left of a text.
+/// The lines that are left of a text. Contracts see the bytes that are left.
 #[derive(Drop)]
-pub(crate) struct Lines<'a> {
+pub struct Lines<'a> {
     rest: &'a [u8],
 }
 
@@ -29,14 +29,15 @@ impl<'a> Model for Lines<'a> {
 }
 
 impl<'a> Lines<'a> {
-    pub(crate) fn new(bytes: &'a [u8]) -> Lines<'a>
+    /// The lines of these bytes.
+    pub fn new(bytes: &'a [u8]) -> Lines<'a>
         ensures { result ≡ bytes.now }
     {
         Lines { rest: bytes }
     }
 
     /// The next line, or None at the end.
-    pub(crate) fn next_line(&mut self) -> Option<TextLine<'a>>
+    pub fn next_line(&mut self) -> Option<TextLine<'a>>
         ensures none { IfNone result (self.old ≡ []) }
         ensures line { IfSome result
             (λ line. IsFirstLine self.old line.text.now line.is_ended self.new) }

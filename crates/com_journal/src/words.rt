@@ -103,7 +103,8 @@ pub(crate) fn end_of(word: &[u8]) -> Result<End, Unread>
     }
 }
 
-pub(crate) fn end_word(end: End) -> &'static [u8]
+/// `EMI` or `EGI`.
+pub fn end_word(end: End) -> &'static [u8]
     ensures { result.now ≡ end_word end }
 {
     match end {
@@ -177,7 +178,8 @@ pub(crate) fn frame_of(word: &[u8]) -> Result<FrameKind, Unread>
     }
 }
 
-pub(crate) fn frame_word(kind: FrameKind) -> &'static [u8]
+/// The word for what is wrong with an input.
+pub fn frame_word(kind: FrameKind) -> &'static [u8]
     ensures { result.now ≡ frame_word kind }
 {
     match kind {
