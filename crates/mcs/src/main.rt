@@ -5,17 +5,20 @@
 //!
 //! ```text
 //! mcs replay net.toml script.txt
+//! mcs show marks t1.in
 //! ```
 #![tactic(auto)]
 
 ghost use Rattle.std.specs.Prelude.{◌≡◌, drop, map, string_bytes};
 ghost use Rattle.std.specs.Process.{exit_status};
-ghost use Rattle.mcs_top.specs.Replay.{IsOutcome};
+ghost use Rattle.mcs_top.specs.Outcome.{IsComplete, IsOutcome};
 
 use com_io::{Clock, DirStore, FixedClock, Store};
 use com_msg::Stamp;
 use std::alloc::{AllocError, Global};
 use std::process::ExitCode;
+use std::sync::Wait;
+use std::thread::Threads;
 use std::{env, io};
 
 /// The exit status where memory ran out.
@@ -30,20 +33,24 @@ fn main(rt: HostRuntime) -> ExitCode {
         return ExitCode::from(OUT_OF_MEMORY);
     };
     let clock = FixedClock { stamp };
-    command(rt.alloc(), &arguments, &mut DirStore::new(&rt), &clock)
+    let mut store = DirStore::new(&rt);
+    command(&rt, rt.alloc(), &arguments, &mut store, &clock)
 }
 
 /// Does the command of a program's arguments, and answers its exit code.
-fn command<S: Store, C: Clock + Sync>(
+fn command<H: Threads + Wait + Sync, S: Store, C: Clock + Sync>(
+    rt: &H,
     alloc: Global,
     arguments: &[String],
     store: &mut S,
     clock: &C,
 ) -> ExitCode
-    ensures { IsOutcome (map string_bytes (drop 1 arguments.now)) (exit_status result)
+    ensures outcome { IsOutcome (map string_bytes (drop 1 arguments.now)) (exit_status result)
+        (S.shows store.old) (S.shows store.new) }
+    ensures complete { IsComplete (map string_bytes (drop 1 arguments.now)) (exit_status result)
         (S.shows store.old) (S.shows store.new) }
 {
-    ExitCode::from(mcs_top::mcs(alloc, words_of(arguments), store, clock))
+    ExitCode::from(mcs_top::mcs(rt, alloc, words_of(arguments), store, clock))
 }
 
 /// The words of the command: all arguments but the first, which is the program's name.

@@ -1,118 +1,109 @@
--- Doing a script line by line, over lists alone.
-use Rattle.std.proofs.Common.{◌≡◌, ℕ, ◌+◌, ◌≤◌, true, List, [], ◌∷◌, ◌++◌, length, Some, refl, sym, ◌∙◌, arith, append_assoc}
-use Rattle.std.specs.Prelude.{codes, decimal}
-use Rattle.std.proofs.lemmas.List.{append-nil, length_push, map-append}
-use Rattle.com_text.specs.Counted.{counted_field}
-use Rattle.mcs_top.specs.declared.net.Net.{Net}
-use Rattle.mcs_top.specs.declared.events.Party.{Party}
-use Rattle.mcs_top.specs.declared.events.Party.TheVariants.{Unit as OfUnit, Terminal as OfTerminal}
-use Rattle.mcs_top.specs.declared.events.Call.{Call}
-use Rattle.mcs_top.specs.declared.events.Call.TheVariants.{Start, Receive, Arrive}
-use Rattle.mcs_top.specs.declared.events.Reply.{Reply}
-use Rattle.mcs_top.specs.declared.events.Reply.TheVariants.{Started, Given, NoData, Refused, Arrived}
-use Rattle.mcs_top.specs.declared.events.Entry.{Entry}
-use Rattle.com_events.specs.declared.entry.Entry.{Entry as EntryOf}
-use Rattle.com_events.specs.declared.reply.Reply.TheVariants as answer
+-- What a run writes is what is written of its history.
+use Rattle.std.proofs.Common.{◌≡◌, ℕ, ◌+◌, List, [], ◌∷◌, length, map, Some, refl, sym, ◌∙◌, inr, subst, ◌≤◌}
+use Rattle.std.specs.Prelude.{All}
+use Rattle.std.proofs.lemmas.List.{length-map}
+use Rattle.std.proofs.lemmas.List.Elements.{All-nil, All-cons}
+use Rattle.com_io.specs.Files.{IsRead}
+use Rattle.com_io.specs.Stores.{Shown}
+use Rattle.com_net.specs.declared.net.Net.{Net}
+use Rattle.com_net.specs.declared.net.Terminal.{Terminal}
+use Rattle.com_net.specs.declared.net.UnitRow.{UnitRow}
+use Rattle.com_net.specs.Network.{IsNet}
+use Rattle.com_events.specs.declared.entry.Entry.{Entry}
+use Rattle.com_events.specs.Calls.{IsWellFormed}
+use Rattle.com_journal.specs.Scripts.{lines_of, script_header, AreCalls}
 use Rattle.com_state.specs.State.{State, opening}
-use Rattle.com_state.specs.Steps.{step}
-use Rattle.com_state.specs.Histories.{LeadsTo}
-use Rattle.com_state.proofs.Portions.{no_more_than_asked, only_started, only_arrived}
-use Rattle.mcs_top.specs.Model.{model_net, model_party, model_call, model_reply, model_entry, model_history}
-use Rattle.mcs_top.specs.Journal.{IsCallText, IsReplyText, HasText, HaveTexts, fields}
-use Rattle.mcs_top.specs.SystemState.{IsReply}
-use Rattle.mcs_top.specs.Script.{lines_of, AreCalls}
-use Rattle.mcs_top.specs.Refusal.{StopsAt}
-use Rattle.mcs_top.specs.Performing.{DoesLine, HasDone}
+use Rattle.com_state.specs.Histories.{LeadsTo, Legal, state_after, call_made}
+use Rattle.com_state.proofs.Fronts.{state_left}
+use Rattle.com_state.proofs.Runs.{sent_of_leads, shown_of_legal}
+use Rattle.com_state.proofs.Consistency.{consistent}
+use Rattle.com_state.proofs.Telling.{told_by_entries}
+use Rattle.com_state.proofs.Whole.{every_history}
+use Rattle.mcs_top.specs.declared.run.Run.{Run}
+use Rattle.mcs_top.specs.declared.script.Reason.TheVariants as reason
+use Rattle.mcs_top.specs.declared.script.ScriptFault.{ScriptFault}
+use Rattle.mcs_top.specs.declared.script.ScriptFault.TheVariants.{Refused, Memory}
+use Rattle.mcs_top.specs.Files.{file_limit}
+use Rattle.mcs_top.specs.Outputs.{summary, unit_lines, terminal_lines, transcripts, outputs}
+use Rattle.mcs_top.specs.Running.{IsReached, IsOfRun, HasDoneLines, IsRunOf, IsDoneBy, IsStopped, TellsRefusedLine, transcripts_in, summary_of, writes_of}
+use Rattle.mcs_top.proofs.LastEntries.{ends_of, stopped_by_ends, ended_by_ends}
 
--- one more call at the end
-calls_push : (lines : List (List ℕ)) (history : List Entry) (line : List ℕ) (entry : Entry) → AreCalls lines history → IsCallText entry.party entry.call line → AreCalls (lines ++ line ∷ []) (history ++ entry ∷ [])
-calls_push [] [] line entry h text = (text, tt)
-calls_push (x ∷ lines) (e ∷ history) line entry h text = (h.0, calls_push lines history line entry h.1 text)
-calls_push [] (e ∷ history) line entry h text = absurd h
-calls_push (x ∷ lines) [] line entry h text = absurd h
+transcripts_same : (net : Net) (history : List Entry) (S : State) (n : ℕ) (terminals : List Terminal) → state_after net history ≡ Some S → transcripts_in S n terminals ≡ transcripts net history n terminals
+transcripts_same net history S n [] left = refl
+transcripts_same net history S n (terminal ∷ terminals) left = rw (left, transcripts_same net history S (n + 1) terminals left) refl
 
-leads_push : (first : State) (history : List EntryOf) (S next : State) (entry : EntryOf) → LeadsTo first history S → step S entry.party entry.call ≡ Some (entry.reply, next) → LeadsTo first (history ++ entry ∷ []) next
-leads_push first [] S next entry h stepped = (next, rw h at stepped, refl)
-leads_push first (e ∷ history) S next entry h stepped = (h.0, h.1, leads_push h.0 history S next entry h.2 stepped)
+units_same : (units : List UnitRow) (history : List Entry) → unit_lines units (ends_of history) ≡ unit_lines units history
+units_same [] history = refl
+units_same (unit ∷ units) history = rw (stopped_by_ends unit.name history, units_same units history) refl
 
--- one more entry of the model
-model_push : (first : State) (history : List Entry) (S next : State) (entry : Entry) → LeadsTo first (model_history history) S
-    → step S (model_party entry.party) (model_call entry.call) ≡ Some (model_reply entry.reply, next) → LeadsTo first (model_history (history ++ entry ∷ [])) next
-model_push first history S next entry h stepped =
-    rw (map-append model_entry history (entry ∷ [])) (leads_push first (model_history history) S next (model_entry entry) h stepped)
+terminals_same : (terminals : List Terminal) (history : List Entry) → terminal_lines terminals (ends_of history) ≡ terminal_lines terminals history
+terminals_same [] history = refl
+terminals_same (terminal ∷ terminals) history = rw (ended_by_ends terminal.name history, terminals_same terminals history) refl
 
-texts_push : (history : List Entry) (entry : Entry) → HaveTexts history → HasText entry → HaveTexts (history ++ entry ∷ [])
-texts_push [] entry h text = (text, tt)
-texts_push (e ∷ history) entry h text = (h.0, texts_push history entry h.1 text)
+-- the network stays
+net_stays : (net : Net) (history : List Entry) (run : Run) → IsOfRun net history run → run.state.net ≡ net
+net_stays net history run h = (told_by_entries net history run.state h.done).net
 
-pub done_nothing : (net : Net) (bytes : List ℕ) → HasDone net bytes bytes [] (opening (model_net net)) 1
-done_nothing net bytes = record { before = []; lines = refl; place = refl; calls = tt; done = refl; texts = tt }
+summary_same : (net : Net) (history : List Entry) (run : Run) → IsOfRun net history run → summary_of run ≡ summary net history
+summary_same net history run h =
+    rw (h.kept.ends, h.kept.arrivals, h.kept.portions, net_stays net history run h, units_same net.units history, terminals_same net.terminals history, sent_of_leads net history run.state h.done) refl
 
-pub done_more : (net : Net) (bytes rest after line : List ℕ) (history longer : List Entry) (S next : State) (number : ℕ) → HasDone net bytes rest history S number
-    → lines_of rest ≡ line ∷ lines_of after → DoesLine line history longer S next → HasDone net bytes after longer next (number + 1)
-done_more net bytes rest after line history longer S next number h first d =
-    rw d.added record {
-      before = h.before ++ line ∷ [];
-      lines = h.lines ∙ rw first (sym (append_assoc h.before (line ∷ []) (lines_of after)));
-      place = omega (arith, h.place, length_push h.before line);
-      calls = calls_push h.before history line d.entry h.calls d.text;
-      done = model_push (opening (model_net net)) history S next d.entry h.done d.stepped;
-      texts = texts_push history d.entry h.texts d.written;
-    }
+pub writes_same : (net : Net) (history : List Entry) (run : Run) → IsOfRun net history run → writes_of run ≡ outputs net history run.journal
+writes_same net history run h =
+    rw (summary_same net history run h, net_stays net history run h, transcripts_same net history run.state 0 net.terminals (state_left net history run.state h.done)) refl
 
-pub done_until : (net : Net) (bytes rest after line : List ℕ) (history : List Entry) (S : State) (number : ℕ) (refused : State → List ℕ → Type 0) → HasDone net bytes rest history S number
-    → lines_of rest ≡ line ∷ lines_of after → refused S line → StopsAt net (lines_of bytes) (number + 1) refused
-done_until net bytes rest after line history S number refused h first is = record {
-  before = h.before;
-  line = line;
-  after = lines_of after;
-  split = h.lines ∙ rw first refl;
-  place = omega (arith, h.place);
+-- the calls of a script are well formed
+well_formed : (history : List Entry) (lines : List (List ℕ)) → AreCalls (map call_made history) lines → All (λ entry. IsWellFormed entry.call) history
+well_formed [] [] h = All-nil (λ entry. IsWellFormed entry.call)
+well_formed (entry ∷ history) (line ∷ lines) h = All-cons (λ entry. IsWellFormed entry.call) entry history h.0.ranges (well_formed history lines h.1)
+well_formed (entry ∷ history) [] h = absurd h
+well_formed [] (line ∷ lines) h = absurd h
+
+-- the run of a script is reached by well-formed calls
+pub reached : (net : Net) (history : List Entry) (lines : List (List ℕ)) (run : Run) → AreCalls (map call_made history) lines → IsOfRun net history run → IsReached run.state
+reached net history lines run calls h = record {
   history = history;
-  calls = h.calls;
-  state = S;
-  done = h.done;
-  is_refused = is;
+  calls = well_formed history lines calls;
+  done = subst (λ (n : Net). LeadsTo (opening n) history run.state) (sym (net_stays net history run h)) h.done;
 }
 
--- where nothing is left, each line was done
-pub done_all : (net : Net) (bytes : List ℕ) (history : List Entry) (S : State) (number : ℕ) → HasDone net bytes [] history S number → AreCalls (lines_of bytes) history
-done_all net bytes history S number h = rw (h.lines, append-nil h.before) h.calls
+-- there is a destination for each terminal
+pub as_many : (S : State) → IsNet S.net → IsReached S → length S.outgoing ≡ length S.net.terminals
+as_many S is h = (consistent S.net h.history S is h.calls h.done).outputs.many ∙ length-map S.net.terminals _
 
--- no more than 2,000 characters are given
-abbrev IsShort : Reply → Type 0
-IsShort (Given area text) = length text ≤ 2000
-IsShort _ = Unit {0}
+-- where each line behind the header was done, the script was
+pub run_of : (net : Net) (script rest : List ℕ) (run : Run) → length script ≤ file_limit → lines_of script ≡ script_header ∷ lines_of rest → HasDoneLines net (lines_of rest) run → IsRunOf net script run
+run_of net script rest run short header h = record {
+  short = short;
+  history = h.history;
+  calls = (lines_of rest, header, h.calls);
+  of_run = h.of_run;
+}
 
--- the text of such a reply
-short_text : (reply : Reply) → IsReply reply → IsShort reply → (text : List ℕ) × IsReplyText reply text
-short_text Started valid h = (counted_field [], refl)
-short_text (Given area text) valid h = (fields (codes "TEXT" ∷ counted_field area ∷ counted_field text ∷ []), (valid.0, (valid.1, h), refl))
-short_text (NoData area) valid h = (fields (codes "NONE" ∷ counted_field area ∷ []), (valid, refl))
-short_text (Refused area) valid h = (fields (codes "REFUSED" ∷ counted_field area ∷ []), (valid, refl))
-short_text (Arrived number) valid h = (decimal number, refl)
+-- where a line behind the header is refused, the script is
+pub refused_behind : (net : Net) (script rest : List ℕ) (fault : ScriptFault) → length script ≤ file_limit → lines_of script ≡ script_header ∷ lines_of rest → IsStopped net (lines_of rest) fault
+    → TellsRefusedLine net script fault
+refused_behind net script rest (Refused line reason.Size) short header h = absurd h
+refused_behind net script rest (Refused line reason.Text) short header h = (short, inr (lines_of rest, header, h))
+refused_behind net script rest (Refused line reason.NotAllowed) short header h = (short, (lines_of rest, header, h))
+refused_behind net script rest Memory short header h = tt
 
--- a call that has a text gives no more than 2,000 characters
-given_short : (S next : State) (party : Party) (call : Call) (text area given : List ℕ) → IsCallText party call text
-    → step S (model_party party) (model_call call) ≡ Some (answer.Given area given, next) → length given ≤ 2000
-given_short S next (OfUnit unit) Start text area given h stepped = absurd (only_started S next unit area given stepped)
-given_short S next (OfUnit unit) (Receive asked kind size) text area given h stepped = omega (arith, h.1.1, no_more_than_asked S next unit asked area given kind size true stepped)
-given_short S next (OfTerminal terminal) (Arrive stamp message) text area given h stepped = absurd (only_arrived S next terminal area given stamp message stepped)
-given_short S next (OfUnit unit) (Arrive stamp message) text area given h stepped = absurd h
-given_short S next (OfTerminal terminal) Start text area given h stepped = absurd h
-given_short S next (OfTerminal terminal) (Receive asked kind size) text area given h stepped = absurd h
-
--- the reply of a step has a text
-step_short : (S next : State) (party : Party) (call : Call) (text : List ℕ) (reply : Reply) → IsCallText party call text
-    → step S (model_party party) (model_call call) ≡ Some (model_reply reply, next) → IsShort reply
-step_short S next party call text Started h stepped = tt
-step_short S next party call text (Given area given) h stepped = given_short S next party call text area given h stepped
-step_short S next party call text (NoData area) h stepped = tt
-step_short S next party call text (Refused area) h stepped = tt
-step_short S next party call text (Arrived number) h stepped = tt
-
-pub step_text : (S : State) (party : Party) (call : Call) (text : List ℕ) (reply : Reply) (next : State) → IsCallText party call text
-    → step S (model_party party) (model_call call) ≡ Some (model_reply reply, next) → IsReply reply → HasText (record { party = party; call = call; reply = reply })
-step_text S party call text reply next h stepped valid =
-    let told = short_text reply valid (step_short S next party call text reply h stepped) in
-    (text ++ codes " = " ++ told.0, record { call = text; reply = told.0; call_text = h; reply_text = told.1; joined = refl })
+-- the history of a script's calls is legal, and whole
+pub done_by : (script_file script : List ℕ) (net : Net) (before read : Shown) (run : Run) → IsRead file_limit script_file script before read → IsRunOf net script run → IsDoneBy script_file net before read run
+done_by script_file script net before read run is_read h =
+    let legal : Legal net h.history = (run.state, h.of_run.done) in
+    let whole = every_history net h.history legal in
+    record {
+      history = h.history;
+      script_done = record {
+        script = script;
+        is_read = is_read;
+        short = h.short;
+        calls = h.calls;
+        legal = legal;
+        ran = shown_of_legal net h.history legal;
+        whole = whole.0;
+        in_order = whole.1;
+      };
+      of_run = h.of_run;
+    }

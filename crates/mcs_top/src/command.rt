@@ -1,83 +1,119 @@
 //! The commands.
-ghost use Rattle.std.specs.Prelude.{◌≡◌, ◌⊎◌, ◌↔◌, List, ℕ, codes, map, string_bytes, IsTrue, IfSome, IfNone, IfOk, IfErr, OnOk};
-ghost use Rattle.mcs_top.specs.Replay.{IsReplay, is_file_word, OfReplay, HasReplayed, IsReported, IsCutReport, IsOutcome, reason_word};
-ghost use Rattle.mcs_top.specs.Failing.{IsCommandFault, report_of, status_of};
+ghost use Rattle.std.specs.Prelude.{◌≡◌, ◌↔◌, ◌⊎◌, List, ℕ, codes, map, string_bytes, IsTrue, IfSome, IfNone};
+ghost use Rattle.com_msg.specs.declared.framing.Framing.{Framing as AFraming};
+ghost use Rattle.mcs_top.specs.Words.{is_file_word, framing_word, IsReplay, IsShow, IsNoCommand, IsCommand};
+ghost use Rattle.mcs_top.specs.Outcome.{IsOutcome, IsComplete, IsUsageOutcome, IsReplayOutcome, IsShowOutcome};
 
-use crate::replay::{Fault, Refusal, replay};
-use crate::script::Reason;
-use com_io::{Clock, OUTPUT_NAME, Store, StoreFault};
-use com_text::{Rows, put_number};
-use std::alloc::{AllocError, Global};
+use crate::replay::{Verdict, replay};
+use crate::report::{Refusal, answer, refuse};
+use crate::show::show;
+use com_io::{Clock, Store};
+use com_msg::Framing;
+use std::alloc::Global;
+use std::sync::Wait;
+use std::thread::Threads;
 
 const DONE: u8 = 0;
 
-const OUT_OF_MEMORY: u8 = 1;
+const TERMINAL_FAULTY: u8 = 6;
 
-const USAGE: u8 = 2;
-
-const DESCRIPTION_REFUSED: u8 = 3;
-
-const FILE_UNREAD: u8 = 5;
-
-const WRITE_FAILED: u8 = 7;
-
-const SCRIPT_REFUSED: u8 = 8;
+/// What the program is to do.
+#[derive(Clone, Copy, Debug)]
+pub enum Command<'a> {
+    /// `replay NET SCRIPT`
+    Replay { net: &'a str, script: &'a str },
+    /// `show MODE FILE`
+    Show { framing: Framing, file: &'a str },
+}
 
 /// Does the command of these words, which stand after the program's name, and answers the exit
 /// status:
 ///
-/// - 0: the script's calls were done, and the journal, the transcript and the summary were written.
+/// - 0: all was done and written.
 /// - 1: memory ran out.
-/// - 2: the words are not `replay NET SCRIPT`, where NET and SCRIPT are not empty and do not begin
-///   with `-`.
+/// - 2: the words are no command. The commands are `replay NET SCRIPT` and `show MODE FILE`, where MODE
+///   is `marks` or `lines`, and NET, SCRIPT and FILE are not empty and do not begin with `-`.
 /// - 3: the description NET is refused.
 /// - 5: a file could not be read.
+/// - 6: all was done and written, and a terminal of the script ended with FRAME, FAULT or LONG.
 /// - 7: a write of the outputs failed.
 /// - 8: SCRIPT is refused: too long, a bad header, or a line that is no call or whose call is not
 ///   allowed.
+/// - 9: FILE was shown, and has a fault or is too long.
 ///
-/// With 2, 3, 5 and 8 one line is written to standard output, in one write, and nothing else; a
-/// failure of that write leaves the status. Only NET and then SCRIPT are opened, and each is closed
-/// again.
+/// With 2, 3, 5, 8 and 9 one report is written to standard output, in one write, and nothing else; a
+/// failure of that write leaves the status. Each file is closed as soon as it was read.
 pub fn tool<S: Store>(alloc: Global, words: &[String], store: &mut S) -> u8
-    ensures { IsOutcome (map string_bytes words.now) result (S.shows store.old) (S.shows store.new) }
+    ensures outcome { IsOutcome (map string_bytes words.now) result (S.shows store.old)
+        (S.shows store.new) }
+    ensures complete { IsComplete (map string_bytes words.now) result (S.shows store.old)
+        (S.shows store.new) }
 {
-    match command(alloc, words, store) {
-        Ok(()) => DONE,
-        Err(Fault::Refused(refusal)) => refuse(alloc, refusal, store),
-        Err(Fault::Write) => WRITE_FAILED,
-        Err(Fault::Memory) => OUT_OF_MEMORY,
+    match Command::of_words(words) {
+        Some(Command::Replay { net, script }) => replay_status(alloc, net, script, store),
+        Some(Command::Show { framing, file }) => show_status(alloc, framing, file, store),
+        None => refuse(alloc, Refusal::Usage, store),
     }
 }
 
 /// Does the command of these words, as [`tool`] does, for the commands that are built so far: none
 /// of them starts a thread or asks what time it is.
-pub fn mcs<S: Store, C: Clock + Sync>(
+pub fn mcs<H: Threads + Wait + Sync, S: Store, C: Clock + Sync>(
+    _rt: &H,
     alloc: Global,
     words: &[String],
     store: &mut S,
     _clock: &C,
 ) -> u8
-    ensures { IsOutcome (map string_bytes words.now) result (S.shows store.old) (S.shows store.new) }
+    ensures outcome { IsOutcome (map string_bytes words.now) result (S.shows store.old)
+        (S.shows store.new) }
+    ensures complete { IsComplete (map string_bytes words.now) result (S.shows store.old)
+        (S.shows store.new) }
 {
     tool(alloc, words, store)
 }
 
-fn command<'a, S: Store>(alloc: Global, words: &'a [String], store: &mut S) -> Result<(), Fault<'a>>
-    ensures ok { OnOk result (OfReplay (map string_bytes words.now)
-        (HasReplayed (S.shows store.old) (S.shows store.new))) }
-    ensures err { IfErr result
-        (IsCommandFault (map string_bytes words.now) (S.shows store.old) (S.shows store.new)) }
+/// The exit status of a replay.
+fn replay_status<S: Store>(alloc: Global, net_file: &str, script_file: &str, store: &mut S) -> u8
+    ensures outcome { IsReplayOutcome net_file.now script_file.now result (S.shows store.old)
+        (S.shows store.new) }
     ensures pending { (S.shows store.new).pending ≡ (S.shows store.old).pending }
 {
-    let Some((net_file, script_file)) = replay_files(words) else {
-        return Err(Fault::Refused(Refusal::Usage));
-    };
-    replay(alloc, net_file, script_file, store)
+    match replay(alloc, net_file, script_file, store) {
+        Ok(Verdict::Sound) => DONE,
+        Ok(Verdict::Faulty) => TERMINAL_FAULTY,
+        Err(fault) => answer(alloc, fault, store),
+    }
+}
+
+/// The exit status of showing a file.
+fn show_status<S: Store>(alloc: Global, framing: Framing, file: &str, store: &mut S) -> u8
+    ensures outcome { IsShowOutcome framing file.now result (S.shows store.old)
+        (S.shows store.new) }
+    ensures pending { (S.shows store.new).pending ≡ (S.shows store.old).pending }
+{
+    match show(alloc, framing, file, store) {
+        Ok(()) => DONE,
+        Err(fault) => answer(alloc, fault, store),
+    }
+}
+
+impl<'a> Command<'a> {
+    /// The command that the words ask for.
+    fn of_words(words: &'a [String]) -> Option<Command<'a>>
+        ensures found { IfSome result (IsCommand (map string_bytes words.now)) }
+        ensures other { IfNone result (IsNoCommand (map string_bytes words.now)) }
+    {
+        if let Some((net, script)) = replayed_files(words) {
+            return Some(Command::Replay { net, script });
+        }
+        let (framing, file) = shown_file(words)?;
+        Some(Command::Show { framing, file })
+    }
 }
 
 /// The two file words of `replay`.
-fn replay_files(words: &[String]) -> Option<(&str, &str)>
+fn replayed_files(words: &[String]) -> Option<(&str, &str)>
     ensures found { IfSome result
         (λ files. IsReplay (map string_bytes words.now) files.0.now files.1.now) }
     ensures other { IfNone result ((net_file script_file : List ℕ) → IsReplay
@@ -93,10 +129,60 @@ fn replay_files(words: &[String]) -> Option<(&str, &str)>
     None
 }
 
+/// The framing and the file word of `show`.
+fn shown_file(words: &[String]) -> Option<(Framing, &str)>
+    ensures found { IfSome result
+        (λ shown. IsShow (map string_bytes words.now) shown.0 shown.1.now) }
+    ensures other { IfNone result ((framing : AFraming) (file : List ℕ) → IsShow
+        (map string_bytes words.now) framing file → ⊥) }
+{
+    let [word, mode, file] = words else {
+        return None;
+    };
+    let framing = framing_of(mode.as_str())?;
+    let file = file.as_str();
+    if is_show(word.as_str()) && is_file_word(file) {
+        return Some((framing, file));
+    }
+    None
+}
+
+/// The framing of this name.
+fn framing_of(mode: &str) -> Option<Framing>
+    ensures found { IfSome result (λ framing. mode.now ≡ framing_word framing) }
+    ensures other { IfNone result ((framing : AFraming) → mode.now ≡ framing_word framing → ⊥) }
+{
+    if is_marks(mode) {
+        Some(Framing::Marks)
+    } else if is_lines(mode) {
+        Some(Framing::Lines)
+    } else {
+        None
+    }
+}
+
+fn is_marks(mode: &str) -> bool
+    ensures { IsTrue result ↔ (mode.now ≡ codes "marks") }
+{
+    mode == "marks"
+}
+
+fn is_lines(mode: &str) -> bool
+    ensures { IsTrue result ↔ (mode.now ≡ codes "lines") }
+{
+    mode == "lines"
+}
+
 fn is_replay(word: &str) -> bool
     ensures { IsTrue result ↔ (word.now ≡ codes "replay") }
 {
     word == "replay"
+}
+
+fn is_show(word: &str) -> bool
+    ensures { IsTrue result ↔ (word.now ≡ codes "show") }
+{
+    word == "show"
 }
 
 fn is_file_word(word: &str) -> bool
@@ -105,70 +191,5 @@ fn is_file_word(word: &str) -> bool
     match word.as_bytes() {
         [] => false,
         [first, ..] => *first != b'-',
-    }
-}
-
-/// Writes the report of a refusal, and answers its status.
-fn refuse<S: Store>(alloc: Global, refusal: Refusal<'_>, store: &mut S) -> u8
-    ensures status { (result ≡ 1) ⊎ (result ≡ status_of refusal.entry) }
-    ensures told { result ≡ status_of refusal.entry → IsReported (S.shows store.new)
-        (S.shows store.old) (report_of refusal.entry) }
-    ensures memory { result ≡ 1 → IsCutReport (S.shows store.new) (S.shows store.old)
-        (report_of refusal.entry) }
-    ensures pending { (S.shows store.new).pending ≡ (S.shows store.old).pending }
-{
-    let Ok(report) = report_of(alloc, &refusal) else {
-        return OUT_OF_MEMORY;
-    };
-    match store.write(OUTPUT_NAME, report.as_slice()) {
-        Ok(()) | Err(StoreFault::Failed) => status_of(&refusal),
-        Err(StoreFault::Memory) => OUT_OF_MEMORY,
-    }
-}
-
-fn status_of(refusal: &Refusal<'_>) -> u8
-    ensures { result ≡ status_of refusal.now }
-{
-    match refusal {
-        Refusal::Usage => USAGE,
-        Refusal::Description => DESCRIPTION_REFUSED,
-        Refusal::Unread(_) => FILE_UNREAD,
-        Refusal::Script { .. } => SCRIPT_REFUSED,
-    }
-}
-
-fn report_of(alloc: Global, refusal: &Refusal<'_>) -> Result<Rows<u8>, AllocError>
-    ensures { IfOk result (λ text. text ≡ report_of refusal.now) }
-{
-    let mut out = Rows::new(alloc);
-    match refusal {
-        Refusal::Usage => out.extend_from_slice(
-            b"usage: mcs run NET, replay NET SCRIPT, check NET, show MODE FILE, load N\n",
-        )?,
-        Refusal::Description => out.extend_from_slice(b"description refused: NotYet file\n")?,
-        Refusal::Unread(name) => {
-            out.extend_from_slice(b"cannot read ")?;
-            out.extend_from_slice(name.as_bytes())?;
-            out.extend_from_slice(b"\n")?;
-        }
-        Refusal::Script { line, reason } => {
-            out.extend_from_slice(b"script refused: line ")?;
-            put_number(&mut out, *line)?;
-            out.extend_from_slice(b" ")?;
-            out.extend_from_slice(reason_word(*reason))?;
-            out.extend_from_slice(b"\n")?;
-        }
-    }
-    Ok(out)
-}
-
-fn reason_word(reason: Reason) -> &'static [u8]
-    ensures { result.now ≡ reason_word reason }
-{
-    match reason {
-        Reason::Size => b"SIZE",
-        Reason::Text => b"TEXT",
-        Reason::NotYet => b"NOTYET",
-        Reason::NotAllowed => b"CALL",
     }
 }

@@ -1,8 +1,12 @@
 //! The commands of the program, over any store of files.
 //!
-//! [`tool`] does the command of some words and answers its exit status. So far that is
-//! `replay NET SCRIPT`: it reads the description of a network and a script, does the script's calls on
-//! one thread, and writes the journal, the terminal's transcript and a summary.
+//! [`tool`] does the command of some words and answers its exit status. So far these are
+//!
+//! - `replay NET SCRIPT`, which reads the description of a network and a script, does the script's calls on
+//!   one thread, and writes the journal, the terminals' transcripts and a summary;
+//! - `show MODE FILE`, which reads a file of terminal input and writes the messages that its framing finds.
+//!
+//! [`mcs`] does the same and is handed what commands with threads and a clock need.
 //!
 //! ```rust
 //! use com_io::MemoryStore;
@@ -16,26 +20,24 @@
 //! assert_eq!(rt; store.out("journal.txt"), Some(journal));
 //! ```
 //!
-//! The contract, `IsOutcome` of `specs/Replay.antt`, says for each status what brought it about, what was
-//! written, and every call that was made on the store. With status 0 the history that was written is a
-//! legal run of the script's calls, in which each message goes to one unit with nothing left out, and
-//! messages are taken up in order.
+//! The contract of both, `IsOutcome` of `specs/Outcome.antt`, says for each command and each of its statuses what
+//! brought it about, what was written, and every call that was made on the store. With status 0 or 6 of a
+//! replay the history that was written is a legal run of the script's calls, in which each message goes to one
+//! unit with nothing left out, and the messages of one queue are taken up in order. `IsComplete` says when a
+//! command is done.
 #![tactic(auto)]
 
-mod areas;
-mod call_text;
 mod command;
-mod description;
-mod events;
-mod fields;
-mod journal;
+mod ends;
+mod files;
 mod laws;
-mod net;
 mod outputs;
 mod replay;
+mod report;
+mod run;
 mod script;
-mod system;
-mod toml_tables;
+mod show;
+mod summary;
 
 pub use command::{mcs, tool};
-pub use laws::a_replay_makes_seven_calls;
+pub use laws::{a_replay_reads_two_files, a_show_reads_one_file};

@@ -1,178 +1,106 @@
 //! What a run writes.
-ghost use Rattle.std.specs.Prelude.{◌≡◌, ◌++◌, map, option_map, string_bytes, IfOk, IfErr, OnOk, IsOk, IsErrOf, count_by};
-ghost use Rattle.com_io.specs.Faults.{HasCause};
-ghost use Rattle.mcs_top.specs.Outputs.{IsSilent, arrivals, portions, is_arrival, is_portion, party_line, count_line, count_lines, summary, transcript_name, contents_after, StopsAtWrite};
-ghost use Rattle.mcs_top.specs.Journal.{HaveTexts};
-ghost use Rattle.mcs_top.specs.Writes.{write_of, writes_of, AreTextsOf};
+ghost use Rattle.std.specs.Prelude.{◌≡◌, ◌∷◌, [], All, IfOk, IfErr, OnOk, string_bytes};
+ghost use Rattle.std.specs.List.{flat_map};
+ghost use Rattle.com_msg.specs.Rendering.{rendered_message, IsRenderable};
+ghost use Rattle.com_io.specs.Stores.{output_name};
+ghost use Rattle.mcs_top.specs.Outputs.{transcript_name, writing};
+ghost use Rattle.mcs_top.specs.Running.{IsReached, transcript, transcripts_in, summary_of, writes_of, AreWritten, IsCutIn};
 
-use crate::events::{Entry, Reply};
-use crate::journal;
-use crate::net::Net;
+use crate::run::Run;
+use crate::summary::summary;
 use com_io::{OUTPUT_NAME, Store, StoreFault};
-use com_text::{Name, Rows, put_number};
+use com_lines::render;
+use com_msg::OutMessage;
+use com_state::State;
+use com_text::{Name, Rows};
 use std::alloc::{AllocError, Global};
 
 /// The name that a journal is written under.
 const JOURNAL_NAME: &str = "journal.txt";
 
-/// How many messages were transmitted: no call sends yet.
-const TRANSMITTED: usize = 0;
-
-/// Bytes that are written under a name.
-#[derive(Clone, Copy, Debug)]
-struct Output<'a> {
-    name: &'a str,
-    bytes: &'a [u8],
-}
-
-/// All that is written of a history, before any of it is.
-#[derive(Debug, Drop)]
-pub struct Texts {
-    journal: Rows<u8>,
-    transcript_name: String,
-    summary: Rows<u8>,
-}
-
-impl Texts {
-    /// What is written of a history. Without memory nothing is made.
-    pub fn new(alloc: Global, net: &Net, history: &[Entry]) -> Result<Texts, AllocError>
-        requires texts { HaveTexts history.now }
-        requires silent { IsSilent net.now history.now }
-        ensures { IfOk result (AreTextsOf net.now history.now) }
-    {
-        Ok(Texts {
-            journal: journal::write(alloc, history)?,
-            transcript_name: transcript_name(alloc, &net.terminal.name)?,
-            summary: summary(alloc, net, history)?,
-        })
-    }
-
-    /// Writes the journal, the transcript and the summary, up to the first write that fails.
-    pub fn write<S: Store>(&self, store: &mut S) -> Result<(), StoreFault>
-        ensures ok { OnOk result ((S.shows store.new).contents ≡ option_map
-            (contents_after (writes_of self.now)) (S.shows store.old).contents) }
-        ensures err { IfErr result (λ fault. StopsAtWrite fault (writes_of self.now)
-            (S.shows store.old).contents (S.shows store.new).contents) }
-
-        // the counts
-        ensures cause { HasCause (S.shows store.old).write_faults (S.shows store.new).write_faults
-            (IsOk result) (IsErrOf result StoreFault.Failed) }
-        ensures memory { IsErrOf result StoreFault.Memory → (S.shows store.new).write_faults
-            ≡ (S.shows store.old).write_faults }
-        ensures open_faults { (S.shows store.new).open_faults ≡ (S.shows store.old).open_faults }
-        ensures read_faults { (S.shows store.new).read_faults ≡ (S.shows store.old).read_faults }
-        ensures pending { (S.shows store.new).pending ≡ (S.shows store.old).pending }
-    {
-        let outputs = [
-            Output {
-                name: JOURNAL_NAME,
-                bytes: self.journal.as_slice(),
-            },
-            Output {
-                name: self.transcript_name.as_str(),
-                bytes: &[],
-            },
-            Output {
-                name: OUTPUT_NAME,
-                bytes: self.summary.as_slice(),
-            },
-        ];
-        write_all(store, &outputs)
-    }
-}
-
-/// Writes all of these, in order, up to the first that fails.
-fn write_all<S: Store>(store: &mut S, outputs: &[Output<'_>]) -> Result<(), StoreFault>
-    ensures ok { OnOk result ((S.shows store.new).contents ≡ option_map
-        (contents_after (map write_of outputs.now)) (S.shows store.old).contents) }
-    ensures err { IfErr result (λ fault. StopsAtWrite fault (map write_of outputs.now)
-        (S.shows store.old).contents (S.shows store.new).contents) }
-
-    // the counts
-    ensures cause { HasCause (S.shows store.old).write_faults (S.shows store.new).write_faults
-        (IsOk result) (IsErrOf result StoreFault.Failed) }
-    ensures memory { IsErrOf result StoreFault.Memory → (S.shows store.new).write_faults
-        ≡ (S.shows store.old).write_faults }
-    ensures open_faults { (S.shows store.new).open_faults ≡ (S.shows store.old).open_faults }
-    ensures read_faults { (S.shows store.new).read_faults ≡ (S.shows store.old).read_faults }
-    ensures pending { (S.shows store.new).pending ≡ (S.shows store.old).pending }
+/// Writes the journal, the transcript of each terminal and the summary, up to the first write that
+/// is not done.
+pub fn write_outputs<S: Store>(alloc: Global, run: &Run, store: &mut S) -> Result<(), StoreFault>
+    requires reached { IsReached run.now.state }
+    ensures ok { OnOk result
+        (AreWritten (writes_of run.now) (S.shows store.old) (S.shows store.new)) }
+    ensures err { IfErr result
+        (IsCutIn (writes_of run.now) (S.shows store.old) (S.shows store.new)) }
 {
-    for output in outputs {
-        store.write(output.name, output.bytes)?;
+    write_one(JOURNAL_NAME, run.journal.as_slice(), store)?;
+    write_transcripts(alloc, &run.state, store)?;
+    write_summary(alloc, run, store)
+}
+
+/// Writes these bytes under a name.
+fn write_one<S: Store>(name: &str, bytes: &[u8], store: &mut S) -> Result<(), StoreFault>
+    ensures ok { OnOk result (AreWritten (writing name.now bytes.now ∷ [])
+        (S.shows store.old) (S.shows store.new)) }
+    ensures err { IfErr result (IsCutIn (writing name.now bytes.now ∷ [])
+        (S.shows store.old) (S.shows store.new)) }
+{
+    store.write(name, bytes)
+}
+
+/// Writes the transcript of each terminal.
+fn write_transcripts<S: Store>(
+    alloc: Global,
+    state: &State,
+    store: &mut S,
+) -> Result<(), StoreFault>
+    ensures ok { OnOk result (AreWritten (transcripts_in state.now 0 state.now.net.terminals)
+        (S.shows store.old) (S.shows store.new)) }
+    ensures err { IfErr result (IsCutIn (transcripts_in state.now 0 state.now.net.terminals)
+        (S.shows store.old) (S.shows store.new)) }
+{
+    let terminals = state.net().terminals.as_slice();
+    for number in 0..terminals.len() {
+        let messages = state.transmitted(number as u32);
+        write_transcript(alloc, &terminals[number].name, messages, store)?;
     }
     Ok(())
 }
 
-/// The summary of a history.
-fn summary(alloc: Global, net: &Net, history: &[Entry]) -> Result<Rows<u8>, AllocError>
-    requires { IsSilent net.now history.now }
-    ensures { IfOk result (λ text. text ≡ summary net.now history.now) }
+/// Writes the transcript of a terminal.
+fn write_transcript<S: Store>(
+    alloc: Global,
+    name: &Name,
+    messages: &[OutMessage],
+    store: &mut S,
+) -> Result<(), StoreFault>
+    requires renderable { All IsRenderable messages.now }
+    ensures ok { OnOk result (AreWritten (transcript name.now messages.now ∷ [])
+        (S.shows store.old) (S.shows store.new)) }
+    ensures err { IfErr result (IsCutIn (transcript name.now messages.now ∷ [])
+        (S.shows store.old) (S.shows store.new)) }
+{
+    let name = transcript_name(alloc, name)?;
+    let text = rendered(alloc, messages)?;
+    write_one(name.as_str(), text.as_slice(), store)
+}
+
+/// Writes the summary.
+fn write_summary<S: Store>(alloc: Global, run: &Run, store: &mut S) -> Result<(), StoreFault>
+    requires reached { IsReached run.now.state }
+    ensures ok { OnOk result (AreWritten (writing output_name (summary_of run.now) ∷ [])
+        (S.shows store.old) (S.shows store.new)) }
+    ensures err { IfErr result (IsCutIn (writing output_name (summary_of run.now) ∷ [])
+        (S.shows store.old) (S.shows store.new)) }
+{
+    let text = summary(alloc, run)?;
+    write_one(OUTPUT_NAME, text.as_slice(), store)
+}
+
+/// What a terminal is sent, one message behind another.
+fn rendered(alloc: Global, messages: &[OutMessage]) -> Result<Rows<u8>, AllocError>
+    requires { All IsRenderable messages.now }
+    ensures { IfOk result (λ text. text ≡ flat_map rendered_message messages.now) }
 {
     let mut out = Rows::new(alloc);
-    put_party(&mut out, b"unit ", &net.unit.name)?;
-    put_party(&mut out, b"terminal ", &net.terminal.name)?;
-    put_counts(&mut out, arrivals(history), portions(history), TRANSMITTED)?;
+    for message in messages {
+        render(message, &mut out)?;
+    }
     Ok(out)
-}
-
-fn put_party(out: &mut Rows<u8>, word: &[u8], name: &Name) -> Result<(), AllocError>
-    ensures { OnOk result (out.new ≡ out.old ++ party_line word.now name.now) }
-{
-    out.extend_from_slice(word)?;
-    out.extend_from_slice(name.as_bytes())?;
-    out.extend_from_slice(b" -\n")
-}
-
-fn put_counts(
-    out: &mut Rows<u8>,
-    arrivals: usize,
-    portions: usize,
-    transmitted: usize,
-) -> Result<(), AllocError>
-    ensures { OnOk result (out.new ≡ out.old ++ count_lines arrivals portions transmitted) }
-{
-    put_count(out, b"arrivals ", arrivals)?;
-    put_count(out, b"portions ", portions)?;
-    put_count(out, b"transmitted ", transmitted)?;
-    Ok(())
-}
-
-fn put_count(out: &mut Rows<u8>, word: &[u8], count: usize) -> Result<(), AllocError>
-    ensures { OnOk result (out.new ≡ out.old ++ count_line word.now count) }
-{
-    out.extend_from_slice(word)?;
-    put_number(out, count as u64)?;
-    out.extend_from_slice(b"\n")
-}
-
-fn arrivals(history: &[Entry]) -> usize
-    ensures { result ≡ arrivals history.now }
-{
-    history
-        .iter()
-        .filter(|entry| is_arrival(&entry.reply))
-        .count()
-}
-
-fn is_arrival(reply: &Reply) -> bool
-    ensures { result ≡ is_arrival reply.now }
-{
-    matches!(reply, Reply::Arrived { .. })
-}
-
-fn portions(history: &[Entry]) -> usize
-    ensures { result ≡ portions history.now }
-{
-    history
-        .iter()
-        .filter(|entry| is_portion(&entry.reply))
-        .count()
-}
-
-fn is_portion(reply: &Reply) -> bool
-    ensures { result ≡ is_portion reply.now }
-{
-    matches!(reply, Reply::Given { .. })
 }
 
 /// The name that a terminal's transcript is written under.

@@ -1,8 +1,22 @@
-use Rattle.std.proofs.Common.{◌∙◌, map, string_bytes}
-use Rattle.mcs_top.proofs.Commands.{refused_outcome}
+use Rattle.std.proofs.Common.{map, string_bytes}
+use Rattle.mcs_top.proofs.ByWords.{of_replay, of_show}
+use Rattle.mcs_top.proofs.Complete.{complete}
 use Rattle.mcs_top.proofs.command.tool.Goals as goal
 
-pub returns-in-Err-Refused : goal.returns-in-Err-Refused
-returns-in-Err-Refused g c =
-    refused_outcome (map string_bytes c.args.words.now) (g.S.Store.shows c.args.store.now) (g.S.Store.shows c.command.new.store) (g.S.Store.shows c.refuse.new.store) c.in-Err-Refused.refusal c.refuse.result
-    (rw c.in-Err-Refused.field-0-is at c.in-Err-Refused.ensures.err) c.refuse.ensures.status c.refuse.ensures.told c.refuse.ensures.memory (c.refuse.ensures.pending ∙ c.command.ensures.pending)
+pub returns-in-Some-Replay-clause-complete : goal.returns-in-Some-Replay-clause-complete
+returns-in-Some-Replay-clause-complete g c =
+    let words = map string_bytes c.args.words.now in
+    let before = g.S.Store.shows c.args.store.now in
+    let after = g.S.Store.shows c.replay_status.new.store in
+    let is = rw c.in-Some-Replay.field-0-is at c.in-Some-Replay.ensures.found in
+    complete words c.replay_status.result before after
+    (of_replay words c.in-Some-Replay.net.now c.in-Some-Replay.script.now c.replay_status.result before after is c.replay_status.ensures.outcome c.replay_status.ensures.pending)
+
+pub returns-in-Some-Show-clause-complete : goal.returns-in-Some-Show-clause-complete
+returns-in-Some-Show-clause-complete g c =
+    let words = map string_bytes c.args.words.now in
+    let before = g.S.Store.shows c.args.store.now in
+    let after = g.S.Store.shows c.show_status.new.store in
+    let is = rw c.in-Some-Show.field-0-is at c.in-Some-Show.ensures.found in
+    complete words c.show_status.result before after
+    (of_show words c.in-Some-Show.framing c.in-Some-Show.file.now c.show_status.result before after is c.show_status.ensures.outcome c.show_status.ensures.pending)

@@ -1,5 +1,6 @@
-use Rattle.std.proofs.Common.{inr}
+use Rattle.mcs_top.specs.Files.{file_limit}
+use Rattle.mcs_top.proofs.Reading.{read_abandoned}
 use Rattle.mcs_top.proofs.replay.read_net.Goals as goal
 
-pub returns-in-Ok-None-clause-err : goal.returns-in-Ok-None-clause-err
-returns-in-Ok-None-clause-err g c = (c.in_ok-bytes.bytes.items, c.in_ok-bytes.ensures.ok, inr (rw (c.deref.ensures.value, c.in-Ok-None.field-0-is) at c.in-Ok-None.ensures.none))
+pub returns-clause-err : goal.returns-clause-err
+returns-clause-err g c = read_abandoned file_limit c.args.net_file.now c.in_ok-bytes.bytes.items (g.S.Store.shows c.args.store.now) (g.S.Store.shows c.read_named.new.store) c.in_ok-bytes.ensures.ok

@@ -1,5 +1,0 @@
-use Rattle.mcs_top.proofs.CallLists.{replay_calls}
-use Rattle.mcs_top.proofs.laws.a_replay_makes_seven_calls.Goals as goal
-
-pub returns : goal.returns
-returns c = replay_calls

@@ -1,0 +1,7 @@
+use Rattle.std.proofs.Common.{inl}
+use Rattle.mcs_top.specs.Files.{file_limit}
+use Rattle.mcs_top.proofs.Reading.{read_abandoned}
+use Rattle.mcs_top.proofs.show.show.Goals as goal
+
+pub returns-clause-err : goal.returns-clause-err
+returns-clause-err g c = inl (read_abandoned file_limit c.args.file.now c.in_ok-input.input.items (g.S.Store.shows c.args.store.now) (g.S.Store.shows c.read_named.new.store) c.in_ok-input.ensures.ok)
