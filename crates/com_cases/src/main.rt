@@ -1,14 +1,12 @@
-//! Cases of texts, messages, areas, trees and framing. Each line of `stdin` is a call with its
-//! arguments, and `stdout` has what it is to answer.
+//! Cases of lists, texts, areas and trees. Each line of `stdin` is a call with its arguments, and `stdout`
+//! has what it is to answer.
 #![tactic(auto)]
 
 mod input_areas;
-mod lines;
-mod messages;
+mod lists;
 mod names;
 mod numbers;
 mod output_areas;
-mod sendings;
 mod texts;
 mod trees;
 
@@ -61,13 +59,7 @@ fn of_values(
     if let Some(answer) = numbers::answer(alloc, call, words)? {
         return Ok(Some(answer));
     }
-    if let Some(answer) = messages::answer(alloc, call, words)? {
-        return Ok(Some(answer));
-    }
-    if let Some(answer) = sendings::answer(alloc, call, words)? {
-        return Ok(Some(answer));
-    }
-    lines::answer(alloc, call, words)
+    lists::answer(alloc, call, words)
 }
 
 fn main(rt: HostRuntime) -> io::Result<()> {

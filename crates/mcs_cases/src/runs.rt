@@ -1,7 +1,6 @@
-//! Whole runs of the program.
-use com_io::{DirStore, FixedClock};
-use com_msg::Stamp;
-use mcs_top::mcs;
+//! Whole commands over the files of the current folder.
+use com_io::DirStore;
+use mcs_top::tool;
 use std::alloc::AllocError;
 use std::str;
 
@@ -13,14 +12,6 @@ pub fn run(rt: &HostRuntime, words: &[Vec<u8>]) -> Result<String, AllocError> {
         let word = str::from_utf8(word).unwrap_or("");
         command.push(String::from_str(alloc, word)?)?;
     }
-    let Some(stamp) = Stamp::new(b"740704", b"10203040") else {
-        return String::from_str(alloc, "no stamp");
-    };
-    let status = mcs(
-        alloc,
-        &command,
-        &mut DirStore::new(rt),
-        &FixedClock { stamp },
-    );
+    let status = tool(alloc, &command, &mut DirStore::new(rt));
     format!(in alloc; "{status}")
 }

@@ -1,19 +1,10 @@
-//! Tests of the commands, over files in memory.
+//! Tests of the commands where the store fails: at an opening, a read or a write. And one run of
+//! `mcs`, with a runtime and a clock.
 #![tactic(auto)]
 
 #[cfg(test)]
-mod arrivals;
-#[cfg(test)]
-mod lines;
-#[cfg(test)]
-mod portions;
-#[cfg(test)]
-mod reports;
+mod reads;
 #[cfg(test)]
 mod runs;
-#[cfg(test)]
-mod sizes;
-#[cfg(test)]
-mod whole;
 #[cfg(test)]
 mod writes;

@@ -1,17 +1,22 @@
-//! Runs of the program on files in memory.
-use com_io::MemoryStore;
-use mcs_top::tool;
+//! Commands over files in memory.
+use com_io::{FixedClock, MemoryStore};
+use com_msg::Stamp;
+use mcs_top::{mcs, tool};
 use std::alloc::{AllocError, Global};
 use std::process::Abort;
+use std::test::Fail;
 
-/// A description of one terminal, one queue and one run unit.
-pub const NET: &[u8] = b"version = 1\n\
+/// A description of two terminals, a queue and a run unit.
+const NET: &[u8] = b"version = 1\n\
     [[terminal]]\n\
     name = \"T1\"\n\
     password = \"TPASS\"\n\
     input = \"t1.in\"\n\
     framing = \"marks\"\n\
     route = [\"Q1\"]\n\
+    [[terminal]]\n\
+    name = \"T2\"\n\
+    password = \"TPASS\"\n\
     [[queue]]\n\
     name = \"Q1\"\n\
     password = \"QPASS\"\n\
@@ -19,23 +24,43 @@ pub const NET: &[u8] = b"version = 1\n\
     name = \"ECHO\"\n\
     source = \"echo.cob\"\n";
 
-/// Two receives of one message, which came before.
-pub const ONE_MESSAGE: &[u8] = b"MCS-SCRIPT 1\n\
-    T T1 ARRIVE 740601 10203000 EMI 1 5:HELLO\n\
+/// A message to both terminals.
+const SCRIPT: &[u8] = b"MCS-SCRIPT 1\n\
     U ECHO START\n\
-    U ECHO RECEIVE MESSAGE 5 NODATA 87:Q1                                              00000000000000            0000000000000\n\
-    U ECHO RECEIVE MESSAGE 5 NODATA 87:Q1                                              74060110203000T1          0005200000000\n";
+    U ECHO SEND EMI A1 2:OK 36:00020002000T1          0T2          \n\
+    T T2 END END\n";
 
-/// A store that has a description and a script.
-pub fn store_of(alloc: Global, net: &[u8], script: &[u8]) -> Result<MemoryStore, AllocError> {
+pub const JOURNAL: &[u8] = b"MCS-JOURNAL 1\n\
+    U ECHO START = 0:\n\
+    U ECHO SEND EMI A1 2:OK 36:00020002000T1          0T2           = 36:00020002000T1          0T2          \n\
+    T T2 END END = DONE\n";
+
+/// What each of the terminals is sent.
+pub const SENT: &[u8] = b"\nOK";
+
+pub const SUMMARY: &[u8] = b"unit ECHO -\n\
+    terminal T1 -\n\
+    terminal T2 END\n\
+    arrivals 0\n\
+    portions 0\n\
+    transmitted 2\n";
+
+/// The words of the replay.
+pub const REPLAY: &[&str] = &["replay", "net.toml", "script.txt"];
+
+/// The words of the showing.
+pub const SHOW: &[&str] = &["show", "marks", "t1.in"];
+
+/// A store that has the files of both commands.
+pub fn store_of(alloc: Global) -> Result<MemoryStore, AllocError> {
     let mut store = MemoryStore::new(alloc);
-    store.put("net.toml", net)?;
-    store.put("script.txt", script)?;
+    store.put("net.toml", NET)?;
+    store.put("script.txt", SCRIPT)?;
+    store.put("t1.in", b"AB\x03")?;
     Ok(store)
 }
 
-/// The words of a command.
-pub fn words_of(alloc: Global, words: &[&str]) -> Result<Vec<String>, AllocError> {
+fn words_of(alloc: Global, words: &[&str]) -> Result<Vec<String>, AllocError> {
     let mut all = Vec::new(alloc);
     for word in words {
         all.push(String::from_str(alloc, word)?)?;
@@ -44,19 +69,28 @@ pub fn words_of(alloc: Global, words: &[&str]) -> Result<Vec<String>, AllocError
 }
 
 /// The exit status of a command.
-pub fn command(alloc: Global, words: &[&str], store: &mut MemoryStore) -> Result<u8, AllocError> {
+pub fn status_of(alloc: Global, words: &[&str], store: &mut MemoryStore) -> Result<u8, AllocError> {
     let words = words_of(alloc, words)?;
-    Ok(tool(alloc, words.as_slice(), store))
+    Ok(tool(alloc, &words, store))
 }
 
-/// The exit status of the replay of a store's script.
-pub fn replay(alloc: Global, store: &mut MemoryStore) -> Result<u8, AllocError> {
-    command(alloc, &["replay", "net.toml", "script.txt"], store)
+/// Asserts what was written: the journal, both transcripts and standard output.
+pub fn assert_written<A: Abort>(rt: &A, store: &MemoryStore, written: [Option<&[u8]>; 4]) {
+    let [journal, first, second, output] = written;
+    assert_eq!(rt; store.out("journal.txt"), journal);
+    assert_eq!(rt; store.out("T1.out"), first);
+    assert_eq!(rt; store.out("T2.out"), second);
+    assert_eq!(rt; store.out("-"), output);
 }
 
-/// Asserts that one report was written, and nothing else.
-pub fn assert_report<A: Abort>(rt: &A, store: &MemoryStore, report: &[u8]) {
-    assert_eq!(rt; store.out("-"), Some(report));
-    assert_eq!(rt; store.out("journal.txt"), None);
-    assert_eq!(rt; store.out("T1.out"), None);
+#[test]
+fn a_run_with_a_runtime_and_a_clock_writes_the_same(rt: HostRuntime) -> Result<(), Fail> {
+    let stamp = Stamp::new(b"740704", b"10203040").ok_or("no stamp")?;
+    let mut store = store_of(rt.alloc())?;
+    let words = words_of(rt.alloc(), REPLAY)?;
+    let status = mcs(&rt, rt.alloc(), &words, &mut store, &FixedClock { stamp });
+    assert_eq!(rt; status, 0);
+    let written = [Some(JOURNAL), Some(SENT), Some(SENT), Some(SUMMARY)];
+    assert_written(&rt, &store, written);
+    Ok(())
 }

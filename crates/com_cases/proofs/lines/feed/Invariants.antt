@@ -1,6 +1,0 @@
-use Rattle.com_lines.specs.Framers.{IsUnfinished}
-use Rattle.com_cases.proofs.lines.feed.Given as goal
-
--- the framer goes on
-abbrev pub invariant-loop-piece : goal.invariant-loop-piece
-invariant-loop-piece l = IsUnfinished l.framer

@@ -1,0 +1,67 @@
+//! Cases of Procedure Divisions. Each line of `stdin` is a division: `division` has its source, and
+//! `sentences` the lines of its one paragraph in area B. `stdout` has the first fault, or `ok`.
+#![tactic(auto)]
+
+use case_lines::{Cases, Words, answer_cases, unknown_call};
+use cob_lex::{MAX_SOURCE, SourceError, SourceFault, lex};
+use cob_proc::procedure_division;
+use std::alloc::{AllocError, Global};
+use std::io;
+
+/// The cases of divisions.
+#[derive(Drop)]
+struct Divisions {
+    alloc: Global,
+}
+
+impl Cases for Divisions {
+    fn answer(&mut self, call: &[u8], words: &mut Words<'_>) -> Result<String, AllocError> {
+        match call {
+            b"division" => first_fault(self.alloc, words.bytes()),
+            b"sentences" => {
+                let source = paragraph(self.alloc, words)?;
+                first_fault(self.alloc, &source)
+            }
+            _ => unknown_call(self.alloc),
+        }
+    }
+}
+
+/// The source of a division with one paragraph, whose lines stand in area B from line 3.
+fn paragraph(alloc: Global, words: &mut Words<'_>) -> Result<Vec<u8>, AllocError> {
+    let mut source = Vec::new(alloc);
+    source.extend_from_slice(b"       PROCEDURE DIVISION.\n       MAIN.\n")?;
+    for _ in 0..words.len() {
+        source.extend_from_slice(b"           ")?;
+        source.extend_from_slice(words.bytes())?;
+        source.push(b'\n')?;
+    }
+    Ok(source)
+}
+
+/// The first fault of a source, of its tokens or else of its division.
+fn first_fault(alloc: Global, source: &[u8]) -> Result<String, AllocError> {
+    if source.len() > MAX_SOURCE {
+        return String::from_str(alloc, "a source that is too long");
+    }
+    let tokens = match lex(alloc, source) {
+        Ok(tokens) => tokens,
+        Err(SourceError::Refused(fault)) => return fault_text(alloc, fault),
+        Err(SourceError::Memory(error)) => return Err(error),
+    };
+    match procedure_division(alloc, tokens.as_slice()) {
+        Ok(_) => String::from_str(alloc, "ok"),
+        Err(SourceError::Refused(fault)) => fault_text(alloc, fault),
+        Err(SourceError::Memory(error)) => Err(error),
+    }
+}
+
+/// A fault with its line and column.
+fn fault_text(alloc: Global, fault: SourceFault) -> Result<String, AllocError> {
+    let (kind, line, column) = (fault.kind, fault.line, fault.column);
+    format!(in alloc; "{kind:?} {line}:{column}")
+}
+
+fn main(rt: HostRuntime) -> io::Result<()> {
+    answer_cases(&rt, &mut Divisions { alloc: rt.alloc() })
+}
