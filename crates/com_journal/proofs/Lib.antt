@@ -15,5 +15,6 @@ pub mod FirstLines
 mod Exact
 mod ScriptLaws
 mod Found
+mod Searched
 mod Countable
 mod Histories

@@ -207,6 +207,19 @@ with_entry-line bytes entry =
     ∙ (append_assoc (bytes ++ sort ∷ []) (32 ∷ name) (spelled fields (spelled last []))
     ∙ append_assoc bytes (sort ∷ []) (32 ∷ (name ++ spelled fields (spelled last [])))))))
 
+-- and so it is where its call's text is written as it stands
+pub written_behind : (bytes call : List ℕ) (entry : Entry) → call ≡ call_text entry.party entry.call
+    → written (bytes ++ call) (codes "=" ∷ reply_fields entry.reply) ≡ with_entry bytes entry
+written_behind bytes call entry is =
+    let sort = party_sort entry.party in
+    let fields = party_name entry.party ∷ call_fields entry.call in
+    let last = codes "=" ∷ reply_fields entry.reply in
+    written-spelled (bytes ++ call) last
+    ∙ (append_assoc bytes call (spelled last [])
+    ∙ (ap (λ xs. bytes ++ (xs ++ spelled last [])) (is ∙ call_text-spelled entry.party entry.call)
+    ∙ (ap (λ xs. bytes ++ sort ∷ xs) (spelled-rest fields (spelled last []))
+    ∙ sym (with_entry-line bytes entry))))
+
 -- why a terminal ends, behind a space
 pub end_spelled : (reason : EndReason) → spelled (end_fields reason) [] ≡ 32 ∷ spaced (end_fields reason)
 end_spelled finish.End = refl

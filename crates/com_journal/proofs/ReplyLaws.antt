@@ -230,7 +230,7 @@ done-complete : (rest : List ℕ) → IsEnd rest → done_at (spelled (codes "DO
 unfolding done_at
 done-complete rest end = rw (expected-complete (codes "DONE") rest (no_space (codes "DONE") refl) end) refl
 
--- a sort of reply is what calls of a row are answered
+-- a sort of reply is what calls of a sort are answered
 weaken : (P Q : Reply → Type 0) (bytes : List ℕ) (reply : Reply) (rest : List ℕ) → ((r : Reply) → P r → Q r) → IsReplyRead P bytes reply rest → IsReplyRead Q bytes reply rest
 weaken P Q bytes reply rest h r = record { sort = h reply r.sort; whole = r.whole }
 

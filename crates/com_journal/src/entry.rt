@@ -68,6 +68,17 @@ pub(crate) fn put(out: &mut Rows<u8>, entry: &Entry) -> Result<(), AllocError>
     reply::put(out, &entry.reply)
 }
 
+/// Adds the line of an entry behind the text of its call, without the line's end.
+pub(crate) fn put_behind(out: &mut Rows<u8>, call: &[u8], entry: &Entry) -> Result<(), AllocError>
+    requires text { HasText entry.now }
+    requires call { IsCallText entry.now.party entry.now.call call.now }
+    ensures { OnOk result (out.new ≡ with_entry out.old entry.now) }
+{
+    out.extend_from_slice(call)?;
+    put_word(out, b"=")?;
+    reply::put(out, &entry.reply)
+}
+
 fn put_party(out: &mut Rows<u8>, party: &Party) -> Result<(), AllocError>
     ensures { OnOk result (out.new
         ≡ written (out.old ++ party_sort party.now ∷ []) (party_name party.now ∷ [])) }

@@ -23,7 +23,7 @@ pub struct JournalFault {
 }
 
 /// Why nothing was read.
-#[derive(Debug, Drop, Error)]
+#[derive(Clone, Copy, Debug, Error)]
 pub enum JournalError {
     /// A line is refused.
     #[error("line {} is refused: {:?}", .0.line, .0.kind)]

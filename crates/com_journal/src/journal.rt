@@ -3,7 +3,7 @@ ghost use Rattle.std.specs.Prelude.{◌≡◌, ◌++◌, ◌+◌, ◌∷◌, [],
 ghost use Rattle.com_events.specs.declared.entry.Entry.{Entry as AnEntry};
 ghost use Rattle.com_events.specs.Calls.{HasText};
 ghost use Rattle.com_journal.specs.declared.fault.JournalFault.{JournalFault as AFault};
-ghost use Rattle.com_journal.specs.Lines.{IsLine};
+ghost use Rattle.com_journal.specs.Lines.{IsCallText, IsLine};
 ghost use Rattle.com_journal.specs.Journals.{IsJournal, AreLines, ended, journal_header};
 ghost use Rattle.com_journal.specs.Faults.{Tells, IsJournalFault, IsRefusedLine, IsFirstLine};
 ghost use Rattle.com_journal.specs.Loops.{HasRead, IsRefusedBehind, IsRefusedAt, IsNoEntry, IsMemory};
@@ -18,8 +18,8 @@ use std::alloc::{AllocError, Global};
 
 const HEADER: &[u8; 13] = b"MCS-JOURNAL 1";
 
-/// The journal of entries that have a text: a header, and a line for each entry. Err if memory
-/// runs out.
+/// The journal of entries that have a text: a header, and a line for each entry. The only error is
+/// want of memory.
 pub fn write(alloc: Global, entries: &[Entry]) -> Result<Rows<u8>, AllocError>
     requires { All HasText entries.now }
     ensures { IfOk result (IsJournal entries.now) }
@@ -34,14 +34,15 @@ pub fn write(alloc: Global, entries: &[Entry]) -> Result<Rows<u8>, AllocError>
     Ok(out)
 }
 
-/// Adds the line of an entry that has a text, with its line feed. Without memory a front of it may
-/// have been added.
-pub fn write_entry(entry: &Entry, into: &mut Rows<u8>) -> Result<(), AllocError>
-    requires { HasText entry.now }
+/// Adds the line of an entry that has a text, with its line feed, behind the text of its call. Without
+/// memory a front of it may have been added.
+pub fn write_entry(call: &[u8], entry: &Entry, into: &mut Rows<u8>) -> Result<(), AllocError>
+    requires text { HasText entry.now }
+    requires call { IsCallText entry.now.party entry.now.call call.now }
     ensures { OnOk result ((line : List ℕ) × IsLine entry.now line
         × (into.new ≡ into.old ++ (line ++ 10 ∷ []))) }
 {
-    entry::put(into, entry)?;
+    entry::put_behind(into, call, entry)?;
     into.extend_from_slice(b"\n")
 }
 

@@ -4,6 +4,7 @@ ghost use Rattle.std.specs.List.{position, position_or_len};
 ghost use Rattle.com_journal.specs.Scripts.{is_line_feed};
 ghost use Rattle.com_journal.specs.Faults.{IsFirstLine};
 
+use memchr::memchr;
 use std::marker::Model;
 
 /// A line without its line feed.
@@ -74,8 +75,9 @@ fn line_length(bytes: &[u8]) -> usize
     line_feed_in(bytes).unwrap_or(bytes.len())
 }
 
+#[tactic(auto, using(crate::proofs::Searched::first_byte))]
 fn line_feed_in(bytes: &[u8]) -> Option<usize>
     ensures { result ≡ position is_line_feed bytes.now }
 {
-    bytes.iter().position(|byte| *byte == b'\n')
+    memchr(b'\n', bytes)
 }

@@ -20,8 +20,8 @@ pub(crate) const GROUP_END: u8 = 0x04;
 /// LF, which may follow EMI and EGI.
 pub(crate) const LINE_FEED: u8 = 0x0A;
 
-/// The bytes that frame the messages by marks, with LF behind each message. The
-/// only error is want of memory.
+/// The bytes that frame the messages by marks, with LF behind each message. The only error is want
+/// of memory.
 pub fn encode(alloc: Global, messages: &[RawMessage]) -> Result<Rows<u8>, AllocError>
     requires limits { All IsWithinLimits messages.now }
     ensures bytes { IfOk result (λ bytes. bytes ≡ flat_map encoded messages.now) }

@@ -61,7 +61,7 @@ impl Framer {
     /// Takes the next piece, and adds the messages that the bytes so far finish and that were not
     /// given before. Fault where a fault is settled in the bytes so far, with the first; the
     /// messages before it have been added then, and every later call answers it and adds nothing.
-    /// Memory where memory runs out; nothing is added then, and every later call answers it.
+    /// Memory: memory ran out; nothing is added then, and every later call answers it.
     pub fn feed(&mut self, piece: &[u8], into: &mut Rows<RawMessage>) -> Result<(), FeedError>
         requires unfinished { IsUnfinished self.old }
 
@@ -100,8 +100,8 @@ impl Framer {
 
     /// Ends the input, and adds the messages of all bytes that were not given before; no call may
     /// follow then. Fault where the input is at fault, with its first fault; nothing is added then,
-    /// and every later call answers it. Memory where memory runs out; nothing is added then, and
-    /// every later call answers it.
+    /// and every later call answers it. Memory: memory ran out; nothing is added then, and every
+    /// later call answers it.
     pub fn finish(&mut self, into: &mut Rows<RawMessage>) -> Result<(), FeedError>
         requires unfinished { IsUnfinished self.old }
 
@@ -158,7 +158,7 @@ fn state_at_end(answer: &Result<(), FeedError>) -> State
     }
 }
 
-/// Reads a piece, and adds the messages that it ends. Without memory `into` stays as it was.
+/// Reads a piece, and adds the messages that it ends. Without memory nothing is added.
 fn feed_into(
     reading: &mut Reading,
     piece: &[u8],

@@ -210,12 +210,18 @@ impl Reading {
     /// Reads a byte, and adds the message that it ends.
     fn feed_byte(&mut self, byte: u8, messages: &mut Rows<RawMessage>) -> Result<(), FeedError>
         requires safe { IsSafe self.old }
+
+        // What it is ready for behind the byte.
         ensures safe { OnOk result (IsSafe self.new) }
         ensures framing { OnOk result (self.new.framing ≡ self.old.framing) }
+
+        // What the byte makes of what was read: it goes on, or it is at fault.
         ensures continued { OnOk result (IsContinued self.old (byte ∷ []) messages.old
             self.new messages.new) }
         ensures fault { (fault : FrameFault) → result ≡ Err (FeedError.Fault fault)
             → IsStop self.old byte fault }
+
+        // The messages that were there stay, and an error adds none.
         ensures same { OnErr result (messages.new ≡ messages.old) }
         ensures front { take (length messages.old) messages.new ≡ messages.old }
     {

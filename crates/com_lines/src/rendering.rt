@@ -71,7 +71,7 @@ fn add_line_feeds(lines: u8, bytes: &mut Rows<u8>) -> Result<(), AllocError>
     ensures front { take (length bytes.old) bytes.new ≡ bytes.old }
 {
     for _line in 0..lines {
-        bytes.extend_from_slice(&[LINE_FEED])?;
+        bytes.push(LINE_FEED).map_err(|(_, error)| error)?;
     }
     Ok(())
 }

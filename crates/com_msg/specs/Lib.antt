@@ -3,4 +3,5 @@ pub mod Limits
 pub mod Places
 pub mod Portion
 pub mod Rendering
+pub mod Sharing
 pub mod Stamp

@@ -1,10 +1,10 @@
 //! Building a message to a terminal, text by text.
-ghost use Rattle.std.specs.Prelude.{◌≡◌, ◌+◌, ◌≤◌, [], length, IsOk, IfOk, OnOk, OnErr};
+ghost use Rattle.std.specs.Prelude.{◌≡◌, ◌↔◌, ◌+◌, ◌≤◌, [], length, IsTrue, IsOk, IfOk, OnOk, OnErr};
 ghost use Rattle.com_text.specs.Text.{IsText};
 ghost use Rattle.com_msg.specs.Begun.{ended, finished, nothing_begun, with_text};
 
-use crate::{Advance, End, OutMessage, OutSegment};
-use com_text::{Rows, Text};
+use crate::{Advance, End, OutMessage, OutSegment, Segments};
+use com_text::Text;
 use std::alloc::{AllocError, Global};
 use std::marker::Model;
 use std::mem;
@@ -43,6 +43,13 @@ impl Open {
             segments: Vec::new(alloc),
             text: Vec::new(alloc),
         }
+    }
+
+    /// Whether nothing is begun.
+    pub fn is_empty(&self) -> bool
+        ensures { IsTrue result ↔ (self.now.begun ≡ nothing_begun) }
+    {
+        self.segments.is_empty() && self.text.is_empty()
     }
 
     /// Makes room for `more` characters and for one more segment, and changes nothing else; it never
@@ -100,7 +107,7 @@ impl Open {
         let alloc = *self.segments.allocator();
         let segments = mem::replace(&mut self.segments, Vec::new(alloc));
         Ok(OutMessage {
-            segments: Rows::of_vec(segments),
+            segments: Segments::of_vec(segments),
             end,
         })
     }

@@ -18,7 +18,8 @@
 //!   end key, and leaves exactly the rest.
 //! - [`Open`] is a message to a terminal that has not ended: `add`, `end_segment` and `finish` do exactly
 //!   what SEND does for one destination. After `room` a text that is no longer, and the end of a segment
-//!   or of the message, cannot want memory.
+//!   or of the message, cannot want memory. A [`SharedMessage`] is a message of one text, which is kept once
+//!   for all terminals that are sent it.
 //!
 //! Without memory nothing changes.
 #![tactic(auto)]
@@ -27,12 +28,16 @@ mod begun;
 mod framing;
 mod message;
 mod rest;
+mod segments;
 mod sending;
+mod shared;
 mod stamp;
 
 pub use begun::Open;
 pub use framing::{FrameFault, FrameKind, Framing};
 pub use message::{End, MAX_MESSAGE_LENGTH, MAX_SEGMENT_LENGTH, MAX_SEGMENTS, Message, RawMessage};
 pub use rest::{Kind, MAX_SIZE, Portion, Rest, is_longer};
+pub use segments::Segments;
 pub use sending::{Advance, MAX_ITEM_LENGTH, MAX_LINES, OutMessage, OutSegment, Part};
+pub use shared::SharedMessage;
 pub use stamp::Stamp;

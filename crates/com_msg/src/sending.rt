@@ -2,8 +2,8 @@
 ghost use Rattle.std.specs.Prelude.{◌↔◌, IsTrue};
 ghost use Rattle.com_msg.specs.Rendering.{IsAdvance, IsRenderable};
 
-use crate::End;
-use com_text::{Rows, Text};
+use crate::{End, Segments};
+use com_text::Text;
 
 /// How many lines a terminal advances at most.
 pub const MAX_LINES: u8 = 99;
@@ -62,7 +62,7 @@ pub struct OutSegment {
 #[derive(Debug, Drop)]
 pub struct OutMessage {
     /// Its segments, in order.
-    pub segments: Rows<OutSegment>,
+    pub segments: Segments,
     /// How it ends.
     pub end: End,
 }

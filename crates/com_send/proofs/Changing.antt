@@ -1,6 +1,6 @@
 -- Changing the destinations that are named, one after another.
 use Rattle.std.proofs.Common.{◌≡◌, ◌≢◌, ℕ, zero, suc, ◌+◌, ◌<◌, ◌≤◌, Bool, true, false, inl, inr, List, [], ◌∷◌, ◌++◌, length, map, get_or, set, take, drop, refl, sym, ap, ◌∙◌, arith, add-one}
-use Rattle.std.specs.Prelude.{◌||◌, if◌then◌else◌}
+use Rattle.std.specs.Prelude.{◌||◌, ◌&&◌, if◌then◌else◌}
 use Rattle.std.specs.List.{enumerate_from, list_any}
 use Rattle.std.proofs.lemmas.Bool.{cases_lt, false≢true}
 use Rattle.std.proofs.lemmas.Grind.{get_or-set_at}
@@ -115,3 +115,18 @@ pub any_kept : (p : ℕ → DestinationState → Bool) (first : ℕ) (outputs : 
     ≡ list_any (λ (at, state). p at state) (enumerate_from first (states_of outputs))
 any_kept p first [] = refl
 any_kept p first (output ∷ outputs) = ap (λ (rest : Bool). p first (state_of output) || rest) (any_kept p (first + 1) outputs)
+
+turned : (a b : Bool) → (a && b) ≡ (b && a)
+turned true true = refl
+turned true false = refl
+turned false true = refl
+turned false false = refl
+
+-- two tests of the destinations may come in the other order
+pub any_turned : (p q : ℕ → DestinationState → Bool) (first : ℕ) (states : Outgoing)
+    → list_any (λ (at, state). p at state && q at state) (enumerate_from first states)
+    ≡ list_any (λ (at, state). q at state && p at state) (enumerate_from first states)
+any_turned p q first [] = refl
+any_turned p q first (state ∷ states) =
+    ap (λ (b : Bool). b || list_any (λ (at, state). p at state && q at state) (enumerate_from (first + 1) states)) (turned (p first state) (q first state))
+    ∙ ap (λ (b : Bool). (q first state && p first state) || b) (any_turned p q (first + 1) states)

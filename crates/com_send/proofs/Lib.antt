@@ -1,3 +1,4 @@
+mod SameFields
 mod WorkedSends
 mod WorkedSwitches
 pub mod Finding

@@ -1,19 +1,25 @@
 //! What SEND, ENABLE OUTPUT and DISABLE OUTPUT read in an output area, and write there.
-ghost use Rattle.std.specs.Prelude.{◌≡◌, ◌<◌, ◌≤◌, ◌^◌, length, IfSome, option_map};
+ghost use Rattle.std.specs.Prelude.{◌≡◌, ◌<◌, ◌≤◌, ◌^◌, ◌||◌, ℕ, Bool, length, take, drop, slice_index_or, IfSome, option_map, bytes_eq};
+ghost use Rattle.std.specs.Int.{from_le_bytes, to_le_bytes, w32, w64};
 ghost use Rattle.std.specs.Option.{option_copied};
 ghost use Rattle.arrayvec.specs.ArrayVec.{array_vec_len};
 ghost use Rattle.com_text.specs.Text.{IsText};
-ghost use Rattle.com_cd.specs.OutputArea.{occurrences_of};
-ghost use Rattle.com_send.specs.Found.{destination_with, find_destinations, error_key, is_among, has_unknown, with_status, with_keys};
+ghost use Rattle.com_cd.specs.OutputArea.{occurrences_of, out_field};
+ghost use Rattle.com_cd.specs.declared.output_area.OutField.TheVariants as out;
+ghost use Rattle.com_send.specs.Found.{destination_with, find_destinations, error_key, is_among, names, has_unknown, with_status, with_keys};
 ghost use Rattle.com_send.specs.Sending.{sent_text};
 
 use crate::Destination;
 use arrayvec::ArrayVec;
 use com_cd::{MAX_OCCURRENCES, OutArea, OutField, Status};
-use com_text::{Text, number_of};
+use com_text::{FIELD_LENGTH, Text, number_of};
+use std::marker::Model;
 
 /// How many destinations an area names at most.
 const MAX_FOUND: usize = MAX_OCCURRENCES as usize;
+
+/// How many destinations are marked where they are named.
+const MARKS: usize = 64;
 
 /// For each occurrence that DESTINATION COUNT counts, the number of the destination that it names,
 /// from 0: None where it is unknown.
@@ -21,26 +27,74 @@ pub type Found = ArrayVec<Option<usize>, MAX_FOUND>;
 
 /// The destinations that an area names: None where DESTINATION COUNT is not valid.
 pub fn find_destinations(destinations: &[Destination], area: &OutArea) -> Option<Found>
-    ensures found { option_map (λ found. found.items) result
+    ensures destinations { option_map (λ found. found.items) result
         ≡ find_destinations destinations.now area.now }
-    ensures few { IfSome result (λ found. length found.items ≤ occurrences_of area.now) }
+    ensures within { IfSome result (λ found. length found.items ≤ occurrences_of area.now) }
 {
     let count = area.count()?;
     let mut found = Found::new();
     for at in 0..count {
-        let name = area.get(OutField::Destination(at));
+        let name = name_field(area, at);
         found.push(destination_with(destinations, name));
     }
     Some(found)
 }
 
+/// SYMBOLIC DESTINATION of an occurrence.
+fn name_field(area: &OutArea, at: u32) -> &[u8; FIELD_LENGTH]
+    requires { at < occurrences_of area.now }
+    ensures { result.now ≡ out_field (out.Destination at) area.now }
+{
+    area.get(OutField::Destination(at)).try_into().unwrap()
+}
+
 /// The number of the destination whose name a field holds.
-fn destination_with(destinations: &[Destination], field: &[u8]) -> Option<usize>
+fn destination_with(destinations: &[Destination], field: &[u8; FIELD_LENGTH]) -> Option<usize>
     ensures { result ≡ destination_with destinations.now field.now }
 {
     destinations
         .iter()
-        .position(|destination| destination.name.field().as_slice() == field)
+        .position(|destination| is_same(&destination.name.field(), field))
+}
+
+/// Whether two fields are the same. They are compared as numbers, which takes two steps.
+#[tactic(auto, using(crate::proofs::SameFields::same_by_words))]
+fn is_same(field: &[u8; FIELD_LENGTH], other: &[u8; FIELD_LENGTH]) -> bool
+    ensures { result ≡ bytes_eq field.now other.now }
+{
+    let (first, last) = parts(field);
+    let (other_first, other_last) = parts(other);
+    first_word(first) == first_word(other_first) && last_word(last) == last_word(other_last)
+}
+
+/// The first eight bytes of a field, and the last four.
+fn parts(field: &[u8; FIELD_LENGTH]) -> (&[u8; 8], &[u8; 4])
+    ensures first { result.0.now ≡ take 8 field.now }
+    ensures last { result.1.now ≡ drop 8 field.now }
+{
+    let Some((first, _)) = field.split_first_chunk::<8>() else {
+        unreachable!()
+    };
+    let Some((_, last)) = field.split_last_chunk::<4>() else {
+        unreachable!()
+    };
+    (first, last)
+}
+
+/// Eight bytes as a number, which tells them.
+fn first_word(bytes: &[u8; 8]) -> u64
+    ensures number { result ≡ from_le_bytes w64 bytes.now }
+    ensures bytes { to_le_bytes w64 result ≡ bytes.now }
+{
+    u64::from_le_bytes(*bytes)
+}
+
+/// Four bytes as a number, which tells them.
+fn last_word(bytes: &[u8; 4]) -> u32
+    ensures number { result ≡ from_le_bytes w32 bytes.now }
+    ensures bytes { to_le_bytes w32 result ≡ bytes.now }
+{
+    u32::from_le_bytes(*bytes)
 }
 
 /// Whether an occurrence names a destination.
@@ -48,6 +102,61 @@ pub fn is_among(found: &[Option<usize>], destination: usize) -> bool
     ensures { result ≡ is_among found.now destination }
 {
     found.iter().any(|other| matches!(other, Some(number) if *number == destination))
+}
+
+/// Which destinations the occurrences name. Contracts see the occurrences.
+#[derive(Drop)]
+pub struct Named<'a> {
+    found: &'a [Option<usize>],
+    /// Whether each of the first destinations is named, so that it need not be looked for.
+    marks: [bool; MARKS],
+}
+
+impl<'a> Model for Named<'a> {
+    ghost use Rattle.com_send.specs.Found.{Found};
+    ghost use Rattle.com_send.specs.Kept.{AreMarks};
+
+    ghost Value = { Found };
+
+    ghost view = { λ named. named.found.now };
+
+    ghost invariant = { λ named. AreMarks named.found.now named.marks };
+}
+
+impl<'a> Named<'a> {
+    /// Those that these occurrences name.
+    pub fn new(found: &'a [Option<usize>]) -> Named<'a>
+        ensures { result ≡ found.now }
+    {
+        let mut marks = [false; MARKS];
+        for destination in found {
+            mark(&mut marks, *destination);
+        }
+        Named { found, marks }
+    }
+
+    /// Whether an occurrence names a destination.
+    pub fn has(&self, destination: usize) -> bool
+        ensures { result ≡ is_among self.now destination }
+    {
+        if destination < MARKS {
+            self.marks[destination]
+        } else {
+            is_among(self.found, destination)
+        }
+    }
+}
+
+/// Marks a destination that is named.
+fn mark(marks: &mut [bool; MARKS], destination: Option<usize>)
+    ensures { (at : ℕ) (d : Bool) → at < 64 → slice_index_or marks.new at d
+        ≡ (slice_index_or marks.old at d || names at destination) }
+{
+    if let Some(number) = destination {
+        if number < MARKS {
+            marks[number] = true;
+        }
+    }
 }
 
 /// Whether a destination is unknown.

@@ -5,10 +5,20 @@ ghost use Rattle.com_msg.specs.Begun.{nothing_begun};
 ghost use Rattle.com_send.specs.Outgoing.{with_begun};
 ghost use Rattle.com_send.specs.Sending.{deliver, serve};
 ghost use Rattle.com_send.specs.Switching.{switch};
-ghost use Rattle.com_send.specs.Kept.{state_of, HasRoom, CanTransmit};
+ghost use Rattle.com_send.specs.Kept.{state_of, whole_message, CanTransmit, HasPlace, HasRoom, HasSpare, IsReady, IsSentPart};
 
-use com_msg::{End, Open, OutMessage, Part};
+use com_msg::{End, Open, OutMessage, Part, SharedMessage};
 use std::alloc::{AllocError, Global};
+
+/// What a SEND brings to each destination that it names.
+#[derive(Drop)]
+pub struct SentPart<'a> {
+    pub part: Part,
+    /// The characters that are added.
+    pub text: &'a [u8],
+    /// The message of this text alone, where the part ends a message.
+    pub whole: Option<SharedMessage>,
+}
 
 /// What goes to one destination.
 #[derive(Debug, Drop)]
@@ -21,6 +31,8 @@ pub struct Output {
     pub queued: Vec<OutMessage>,
     /// Transmitted, in order.
     pub sent: Vec<OutMessage>,
+    /// The message that is served next, where it is one that other destinations are sent, too.
+    pub ready: Option<OutMessage>,
 }
 
 impl Output {
@@ -38,24 +50,42 @@ impl Output {
             begun: nothing_begun(alloc, units)?,
             queued: Vec::new(alloc),
             sent: Vec::new(alloc),
+            ready: None,
         })
     }
 
-    /// Makes room for so many characters of a unit, and for a message that it finishes.
-    pub fn room(&mut self, unit: u32, characters: usize) -> Result<(), AllocError>
-        requires { unit < length self.old.begun.items }
+    /// Makes room for what a part makes of its text. Without memory nothing that is seen changes.
+    pub fn room(&mut self, unit: u32, sent_part: &SentPart<'_>) -> Result<(), AllocError>
+        requires known { unit < length self.old.begun.items }
+        requires part { IsSentPart sent_part.now }
         ensures state { state_of self.new ≡ state_of self.old }
-        ensures room { OnOk result (HasRoom unit characters self.new) }
+        ensures room { OnOk result
+            (HasRoom unit sent_part.now.part sent_part.now.text.now self.new) }
     {
         self.queued.reserve(1)?;
         self.sent.reserve(1)?;
-        self.begun[unit as usize].room(characters)
+        self.ready = ready_message(&mut self.begun[unit as usize], sent_part)?;
+        Ok(())
     }
 
-    /// Adds text to what the unit has begun, and ends what the part ends.
-    pub fn serve(&mut self, unit: u32, part: Part, text: &[u8])
+    /// Adds the text of a part to what the unit has begun, and ends what the part ends.
+    pub fn serve(&mut self, unit: u32, sent_part: &SentPart<'_>)
+        requires part { IsSentPart sent_part.now }
+        requires room { HasRoom unit sent_part.now.part sent_part.now.text.now self.old }
+        ensures { state_of self.new
+            ≡ serve unit sent_part.now.part sent_part.now.text.now (state_of self.old) }
+    {
+        match self.ready.take() {
+            Some(message) => self.deliver(message),
+            None => self.go_on(unit, sent_part.part, sent_part.text),
+        }
+    }
+
+    /// Goes on from what the unit has begun.
+    fn go_on(&mut self, unit: u32, part: Part, text: &[u8])
         requires text { IsText text.now }
-        requires room { HasRoom unit (length text.now) self.old }
+        requires spare { HasSpare unit (length text.now) self.old }
+        requires place { HasPlace self.old }
         ensures { state_of self.new ≡ serve unit part text.now (state_of self.old) }
     {
         let begun = &mut self.begun[unit as usize];
@@ -77,8 +107,7 @@ impl Output {
     /// What becomes of a finished message: it is transmitted where the output is enabled, and else
     /// queued.
     fn deliver(&mut self, message: OutMessage)
-        requires queued { vec_len self.old.queued < vec_capacity self.old.queued }
-        requires sent { vec_len self.old.sent < vec_capacity self.old.sent }
+        requires { HasPlace self.old }
         ensures { state_of self.new ≡ deliver message (state_of self.old) }
     {
         if self.on {
@@ -115,6 +144,44 @@ impl Output {
         let alloc = *self.begun.allocator();
         self.begun[unit as usize] = Open::new(alloc);
     }
+}
+
+/// The whole message, for a destination to which nothing is begun. Else there is room for the text and
+/// for a segment.
+fn ready_message(
+    begun: &mut Open,
+    sent_part: &SentPart<'_>,
+) -> Result<Option<OutMessage>, AllocError>
+    requires { IsSentPart sent_part.now }
+    ensures begun { begun.new.begun ≡ begun.old.begun }
+    ensures ready { IfOk result (λ ready.
+        IsReady sent_part.now.part sent_part.now.text.now ready begun.new) }
+{
+    match &sent_part.whole {
+        Some(whole) if begun.is_empty() => Ok(Some(whole.message()?)),
+        _ => {
+            begun.room(sent_part.text.len())?;
+            Ok(None)
+        }
+    }
+}
+
+/// The message of a text alone, where the part ends a message.
+pub fn whole_message(
+    alloc: Global,
+    part: Part,
+    text: &[u8],
+) -> Result<Option<SharedMessage>, AllocError>
+    requires { IsText text.now }
+    ensures { IfOk result (λ whole. whole ≡ whole_message part text.now) }
+{
+    let (advance, end) = match part {
+        Part::Portion | Part::Esi(_) => return Ok(None),
+        Part::Emi(advance) => (advance, End::Emi),
+        Part::Egi(advance) => (advance, End::Egi),
+    };
+    let whole = SharedMessage::new(alloc, text, advance, end)?;
+    Ok(Some(whole))
 }
 
 /// What so many units have begun that have sent nothing.

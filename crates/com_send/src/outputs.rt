@@ -6,11 +6,11 @@ ghost use Rattle.com_send.specs.Outgoing.{opening, drop_unit};
 ghost use Rattle.com_send.specs.Found.{at_each};
 ghost use Rattle.com_send.specs.Sending.{serve, has_disabled, send_status};
 ghost use Rattle.com_send.specs.Switching.{switch};
-ghost use Rattle.com_send.specs.Kept.{states_of, EachNamed, HasRoom, CanTransmit};
+ghost use Rattle.com_send.specs.Kept.{states_of, EachNamed, HasRoom, CanTransmit, IsSentPart};
 
 use crate::Destination;
-use crate::areas::{has_unknown, is_among};
-use crate::output::Output;
+use crate::areas::{Named, has_unknown, is_among};
+use crate::output::{Output, SentPart, whole_message};
 use com_cd::Status;
 use com_msg::Part;
 use std::alloc::{AllocError, Global};
@@ -33,6 +33,7 @@ pub fn outputs_of(
 /// Serves each destination that is named, once, and answers the status key: 20 where a destination is
 /// unknown, else 10 where a known one is disabled, else 00. Without memory nothing changes.
 pub fn send_to(
+    alloc: Global,
     outputs: &mut [Output],
     found: &[Option<usize>],
     unit: u32,
@@ -47,9 +48,12 @@ pub fn send_to(
         ≡ at_each found.now (serve unit part text.now) (states_of outputs.old)) }
     ensures err { OnErr result (states_of outputs.new ≡ states_of outputs.old) }
 {
-    make_room(outputs, found, unit, text.len())?;
+    let whole = whole_message(alloc, part, text)?;
+    let sent_part = SentPart { part, text, whole };
+    let named = Named::new(found);
+    make_room(outputs, &named, unit, &sent_part)?;
     let status = send_status(outputs, found);
-    serve(outputs, found, unit, part, text);
+    serve(outputs, &named, unit, &sent_part);
     Ok(status)
 }
 
@@ -76,22 +80,22 @@ pub fn drop_unit(outputs: &mut [Output], unit: u32)
     }
 }
 
-/// Makes room at each destination that is named for so many characters of a unit, and for a message
-/// that it finishes.
+/// Makes room at each destination that is named for what a part of a unit makes of its text.
 fn make_room(
     outputs: &mut [Output],
-    found: &[Option<usize>],
+    named: &Named<'_>,
     unit: u32,
-    characters: usize,
+    sent_part: &SentPart<'_>,
 ) -> Result<(), AllocError>
-    requires { All (λ output. unit < length output.begun.items) outputs.old }
+    requires units { All (λ output. unit < length output.begun.items) outputs.old }
+    requires part { IsSentPart sent_part.now }
     ensures states { states_of outputs.new ≡ states_of outputs.old }
-    ensures room { OnOk result
-        (EachNamed found.now (HasRoom unit characters) (length outputs.new) outputs.new) }
+    ensures room { OnOk result (EachNamed named.now
+        (HasRoom unit sent_part.now.part sent_part.now.text.now) (length outputs.new) outputs.new) }
 {
     for (at, output) in outputs.iter_mut().enumerate() {
-        if is_among(found, at) {
-            output.room(unit, characters)?;
+        if named.has(at) {
+            output.room(unit, sent_part)?;
         }
     }
     Ok(())
@@ -112,16 +116,17 @@ fn make_room_to_transmit(outputs: &mut [Output], found: &[Option<usize>]) -> Res
 }
 
 /// Serves each destination that is named, once.
-fn serve(outputs: &mut [Output], found: &[Option<usize>], unit: u32, part: Part, text: &[u8])
-    requires text { IsText text.now }
-    requires room { EachNamed found.now (HasRoom unit (length text.now)) (length outputs.old)
-        outputs.old }
+fn serve(outputs: &mut [Output], named: &Named<'_>, unit: u32, sent_part: &SentPart<'_>)
+    requires part { IsSentPart sent_part.now }
+    requires room { EachNamed named.now
+        (HasRoom unit sent_part.now.part sent_part.now.text.now) (length outputs.old) outputs.old }
     ensures { states_of outputs.new
-        ≡ at_each found.now (serve unit part text.now) (states_of outputs.old) }
+        ≡ at_each named.now (serve unit sent_part.now.part sent_part.now.text.now)
+        (states_of outputs.old) }
 {
     for (at, output) in outputs.iter_mut().enumerate() {
-        if is_among(found, at) {
-            output.serve(unit, part, text);
+        if named.has(at) {
+            output.serve(unit, sent_part);
         }
     }
 }
@@ -159,5 +164,5 @@ fn has_disabled(outputs: &[Output], found: &[Option<usize>]) -> bool
     outputs
         .iter()
         .enumerate()
-        .any(|(at, output)| is_among(found, at) && !output.on)
+        .any(|(at, output)| !output.on && is_among(found, at))
 }

@@ -86,13 +86,13 @@ impl Outs {
         unit: u32,
         area: &mut OutArea,
         part: Part,
-        from: Option<&Text>,
+        item: Option<&Text>,
     ) -> Result<(), AllocError>
         requires unit { unit < self.old.units }
         requires advance { IfSome (advance_of part) IsAdvance }
         ensures sent { OnOk result ((area.new, self.new.outgoing)
             ≡ send self.old.destinations self.old.outgoing unit area.old part
-            (option_copied from.entry)) }
+            (option_copied item.entry)) }
 
         // What stays, and that nothing changes without memory.
         ensures destinations { self.new.destinations ≡ self.old.destinations }
@@ -104,7 +104,7 @@ impl Outs {
             write_status(area, Status::S30);
             return Ok(());
         };
-        let Some(text) = sent_text(area, from) else {
+        let Some(text) = sent_text(area, item) else {
             write_status(area, Status::S50);
             return Ok(());
         };
@@ -112,7 +112,8 @@ impl Outs {
             write_status(area, Status::S60);
             return Ok(());
         }
-        let status = send_to(&mut self.outputs, &found, unit, part, text)?;
+        let alloc = self.destinations.allocator();
+        let status = send_to(alloc, &mut self.outputs, &found, unit, part, text)?;
         write_keys(area, &found, status);
         Ok(())
     }

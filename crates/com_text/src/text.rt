@@ -45,7 +45,7 @@ impl From<AllocError> for TextError {
 
 impl Text {
     /// A copy of the bytes, where each is a character of a text. Else the error names the first byte
-    /// that is none; the only other error is want of memory.
+    /// that is none. Memory: memory ran out.
     pub fn read(alloc: Global, bytes: &[u8]) -> Result<Text, TextError>
         ensures ok { IfOk result (λ text. text ≡ bytes.now) }
         ensures only_texts { IfOk result (λ text. IsText text) }
@@ -115,5 +115,10 @@ pub fn is_text_byte(byte: u8) -> bool
 pub fn is_text(bytes: &[u8]) -> bool
     ensures { result ≡ is_text bytes.now }
 {
-    bytes.iter().all(|byte| is_text_byte(*byte))
+    // No test ends the loop early, so that it can become vector code.
+    let mut all = true;
+    for byte in bytes {
+        all &= is_text_byte(*byte);
+    }
+    all
 }

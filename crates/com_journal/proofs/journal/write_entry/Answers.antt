@@ -7,6 +7,6 @@ pub returns : goal.returns
 returns c =
     let entry = c.args.entry.now in
     let line = line_spelled entry in
-    let put = ap (λ (xs : List ℕ). xs ++ 10 ∷ []) (c.in_ok-put.ensures ∙ with_entry-line c.args.into.now entry) in
+    let put = ap (λ (xs : List ℕ). xs ++ 10 ∷ []) (c.in_ok-put_behind.ensures ∙ with_entry-line c.args.into.now entry) in
     on_ok_weaker c.extend_from_slice.result
-    (λ ended. (line, spelled-line entry line c.requires refl, ended ∙ (put ∙ append_assoc c.args.into.now line (10 ∷ [])))) c.extend_from_slice.ensures.ok
+    (λ ended. (line, spelled-line entry line c.requires.text refl, ended ∙ (put ∙ append_assoc c.args.into.now line (10 ∷ [])))) c.extend_from_slice.ensures.ok

@@ -6,5 +6,5 @@ use Rattle.com_send.proofs.outputs.make_room.Given as goal
 abbrev pub invariant-loop-at : goal.invariant-loop-at
 invariant-loop-at l = record {
   states : states_of l.outputs ≡ states_of l.fn.outputs;
-  room : EachNamed l.found (HasRoom l.unit l.characters) l.at l.outputs;
+  room : EachNamed l.named (HasRoom l.unit l.sent_part.part l.sent_part.text.now) l.at l.outputs;
 }

@@ -2,20 +2,20 @@ use Rattle.std.proofs.Common.{◌<◌, length, sym, ◌∙◌, arith}
 use Rattle.std.proofs.lemmas.List.{set-get_or}
 use Rattle.com_send.specs.Sending.{serve}
 use Rattle.com_send.proofs.Changing.{so_far_changed, so_far_same}
-use Rattle.com_send.proofs.outputs.serve.Goals.{then-is_among, else-is_among}
+use Rattle.com_send.proofs.outputs.serve.Goals.{then-has, else-has}
 use Rattle.com_send.proofs.outputs.serve.Goals as goal
 
 pub loop-at-preserved : goal.loop-at-preserved
 loop-at-preserved c =
-    let found = c.args.found.now in
+    let found = c.args.named.now in
     let before = c.args.outputs.now in
     let after = c.loop-at.outputs in
     let at = c.loop-at.at in
     let lent = c.index-outputs-at.result in
     let within : at < length before = omega arith in
-    elim c.if-is_among.branch [
-      | then-is_among w ↦
-          rw w.outputs-is (so_far_changed found (serve c.args.unit c.args.part c.args.text.now) before after at w.serve.new.self lent c.loop-at.invariant within (sym c.is_among.ensures ∙ w.if-is_among.true) w.serve.ensures)
-      | else-is_among w ↦
-          rw (w.outputs-is, set-get_or after at lent) (so_far_same found (serve c.args.unit c.args.part c.args.text.now) before after at lent c.loop-at.invariant within (sym c.is_among.ensures ∙ w.if-is_among.false))
+    elim c.if-has.branch [
+      | then-has w ↦
+          rw w.outputs-is (so_far_changed found (serve c.args.unit c.args.sent_part.now.part c.args.sent_part.now.text.now) before after at w.serve.new.self lent c.loop-at.invariant within (sym c.has.ensures ∙ w.if-has.true) w.serve.ensures)
+      | else-has w ↦
+          rw (w.outputs-is, set-get_or after at lent) (so_far_same found (serve c.args.unit c.args.sent_part.now.part c.args.sent_part.now.text.now) before after at lent c.loop-at.invariant within (sym c.has.ensures ∙ w.if-has.false))
     ]

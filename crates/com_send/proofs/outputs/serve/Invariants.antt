@@ -3,4 +3,4 @@ use Rattle.com_send.proofs.Changing.{ChangedSoFar}
 use Rattle.com_send.proofs.outputs.serve.Given as goal
 
 abbrev pub invariant-loop-at : goal.invariant-loop-at
-invariant-loop-at l = ChangedSoFar l.found (serve l.unit l.part l.text) l.fn.outputs l.outputs l.at
+invariant-loop-at l = ChangedSoFar l.named (serve l.unit l.sent_part.part l.sent_part.text.now) l.fn.outputs l.outputs l.at
