@@ -83,17 +83,19 @@ fn read_to_limit<R: Source>(
     ensures opened { IsErrOf result ReadFault.NotOpened → ⊥ }
 {
     let mut bytes = Vec::new(alloc);
+    let mut buffer = [0u8; CHUNK];
     while bytes.len() <= limit {
-        if read_chunk(source, &mut bytes, limit)? == 0 {
+        if read_chunk(source, &mut buffer, &mut bytes, limit)? == 0 {
             break;
         }
     }
     Ok(bytes)
 }
 
-/// Reads some bytes behind those that were read, and answers how many.
+/// Reads some bytes, by way of a buffer, behind those that were read, and answers how many.
 fn read_chunk<R: Source>(
     source: &mut R,
+    buffer: &mut [u8; CHUNK],
     bytes: &mut Vec<u8>,
     limit: usize,
 ) -> Result<usize, ReadFault>
@@ -113,7 +115,6 @@ fn read_chunk<R: Source>(
     // a source is open already
     ensures opened { IsErrOf result ReadFault.NotOpened → ⊥ }
 {
-    let mut buffer = [0u8; CHUNK];
     let room = (limit - bytes.len()).min(CHUNK - 1) + 1;
     let chunk = &mut buffer[..room];
     let Ok(count) = source.read(chunk) else {

@@ -303,7 +303,7 @@ impl Store for MemoryStore {
         }
         let left = source.left_len();
         // There is room for it since the opening.
-        let _ = self.closed.push(Closing { left, failed });
+        self.closed.push(Closing { left, failed }).unwrap();
         self.pending -= 1;
     }
 
@@ -326,7 +326,7 @@ impl Store for MemoryStore {
         self.writings.reserve(1)?;
         write_out(self.alloc, &mut self.outs, name, front)?;
         // There is room for it.
-        let _ = self.writings.push(writing);
+        self.writings.push(writing).unwrap();
         if kept.is_none() {
             return Ok(());
         }

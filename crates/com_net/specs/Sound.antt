@@ -2,6 +2,7 @@
 use Rattle.std.specs.Prelude.{ℕ, Bool, true, not, ◌&&◌, ◌||◌, ◌==◌, nat_le, List, length, if◌then◌else◌}
 use Rattle.std.specs.List.{list_all}
 use Rattle.com_text.specs.Name.{is_name}
+use Rattle.com_text.specs.declared.name_path.TheConstants.{MAX_NAMES}
 use Rattle.com_net.specs.declared.keys.Key.{Key}
 use Rattle.com_net.specs.declared.keys.Key.TheVariants as key
 use Rattle.com_net.specs.declared.keys.Section.TheVariants as section
@@ -13,7 +14,7 @@ use Rattle.com_net.specs.Places.{Place}
 -- one to four names
 abbrev pub is_name_path : List (List ℕ) → Bool
 is_name_path names =
-    (nat_le 1 (length names) && nat_le (length names) 4) && list_all is_name names
+    (nat_le 1 (length names) && nat_le (length names) MAX_NAMES) && list_all is_name names
 
 -- where a table has the first key, its strings at the second are a path
 abbrev pub has_path : Key → Key → Members → Bool

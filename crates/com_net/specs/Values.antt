@@ -2,6 +2,7 @@
 use Rattle.std.specs.Prelude.{ℕ, pos, Bool, true, false, ◌&&◌, ◌||◌, ◌==◌, nat_le, List, [], ◌∷◌, length, Option, Some, None, is_some, option_and_then, unwrap_or, codes, if◌then◌else◌}
 use Rattle.std.specs.Str.{bytes_eq}
 use Rattle.toml.specs.Data.{Data, string, integer, boolean, array, table, Items, no_items, item, Members, get_member, as_str, as_bool}
+use Rattle.com_text.specs.declared.name_path.TheConstants.{MAX_NAMES}
 use Rattle.com_net.specs.declared.keys.Key.{Key}
 use Rattle.com_net.specs.declared.keys.Key.TheVariants as key
 use Rattle.com_net.specs.Keys.{key_text}
@@ -83,7 +84,7 @@ is_table_array _ = false
 abbrev pub are_steps : Items → Bool
 are_steps items =
     are_strings items
-    && (nat_le 1 (length (strings_of items)) && nat_le (length (strings_of items)) 4)
+    && (nat_le 1 (length (strings_of items)) && nat_le (length (strings_of items)) MAX_NAMES)
 
 -- an array of one to four strings
 abbrev pub is_path : Data → Bool

@@ -85,7 +85,7 @@ impl Model for Net {
 }
 
 impl Net {
-    /// The network with these parts. Err if memory runs out.
+    /// The network with these parts. The only error is want of memory.
     pub fn of(
         alloc: Global,
         terminals: Rows<Terminal>,
@@ -120,7 +120,7 @@ impl Net {
         })
     }
 
-    /// A network with the same parts. An error says that memory ran out.
+    /// A network with the same parts. The only error is want of memory.
     pub fn copy(&self) -> Result<Net, AllocError>
         ensures { IfOk result (λ copy. copy ≡ self.now) }
     {
@@ -193,7 +193,7 @@ fn set_of(alloc: Global, names: &[Name]) -> Result<IndexSet<Name>, AllocError>
 
 /// What is copied where there is memory.
 trait TryCopy: Drop {
-    /// An equal value. An error says that memory ran out.
+    /// An equal value. The only error is want of memory.
     fn try_copy(&self) -> Result<Self, AllocError>
         ensures { IfOk result (λ copy. copy ≡ self.now) };
 }

@@ -23,7 +23,7 @@ use toml::Table;
 
 impl Net {
     /// The network that a description gives, where it has no fault. Refused with the first kind of
-    /// fault that there is, at its first place. Without memory nothing is said.
+    /// fault that there is, at its first place. Memory: memory ran out.
     pub fn read(alloc: Global, bytes: &[u8]) -> Result<Net, NetError>
         // A network is the description's, and where there is one, no fault is told.
         ensures net { IfOk result (λ net. net_of bytes.now ≡ Some net) }

@@ -1,7 +1,5 @@
 //! The values of a description's tables.
-ghost use Rattle.std.specs.Prelude.{◌≡◌, true, length, option_map, option_and_then, is_some, codes, IfOk};
-ghost use Rattle.std.specs.List.{list_all};
-ghost use Rattle.toml.specs.Data.{as_str, as_table};
+ghost use Rattle.std.specs.Prelude.{◌≡◌, true, length, option_map, option_and_then, codes, IfOk};
 ghost use Rattle.toml.specs.View.{view, items_view, table_view};
 ghost use Rattle.com_text.specs.Name.{is_name};
 ghost use Rattle.com_text.specs.Text.{IsText};
@@ -10,7 +8,7 @@ ghost use Rattle.com_net.specs.Seen.{texts_in};
 ghost use Rattle.com_net.specs.Values.{value_at, has, text_in, string_at, flag_at, are_tables, tables_of, tables_in, tables_at, are_strings, strings_of, strings_in, strings_at, is_table_array, are_steps, is_path, is_word, is_string, is_boolean, is_one, is_of_kind};
 
 use crate::keys::{Key, key_text};
-use com_text::{Name, NamePath, Text};
+use com_text::{MAX_NAMES, Name, NamePath, Text};
 use std::alloc::{AllocError, Global};
 use toml::{Table, Value};
 
@@ -178,23 +176,11 @@ pub fn is_of_kind(key: Key, value: &Value) -> bool
 fn are_tables(values: &[Value]) -> bool
     ensures { result ≡ are_tables (items_view values.now) }
 {
-    each_is_table(values)
-}
-
-fn each_is_table(values: &[Value]) -> bool
-    ensures { result ≡ list_all (λ value. is_some (as_table (view value))) values.now }
-{
     values.iter().all(|value| value.is_table())
 }
 
 fn are_strings(values: &[Value]) -> bool
     ensures { result ≡ are_strings (items_view values.now) }
-{
-    each_is_string(values)
-}
-
-fn each_is_string(values: &[Value]) -> bool
-    ensures { result ≡ list_all (λ value. is_some (as_str (view value))) values.now }
 {
     values.iter().all(|value| value.is_str())
 }
@@ -238,5 +224,5 @@ fn are_steps(values: &[Value]) -> bool
     if !are_strings(values) {
         return false;
     }
-    1 <= values.len() && values.len() <= 4
+    1 <= values.len() && values.len() <= MAX_NAMES
 }

@@ -12,6 +12,7 @@ use Rattle.com_cd.specs.declared.status.Status.TheVariants.{S00}
 use Rattle.com_cd.specs.declared.input_area.InField.TheVariants as field
 use Rattle.com_tree.specs.declared.tree.TreeRow.{TreeRow}
 use Rattle.com_tree.specs.Places.{leaf_paths}
+use Rattle.com_recv.specs.declared.areas.TheConstants.{MAX_COUNT}
 
 -- the area with this status key
 abbrev pub with_status : Status → List ℕ → List ℕ
@@ -24,16 +25,16 @@ with_origin message area =
     let timed = set_in field.Time dated message.stamp.time in
     set_in field.Source timed (field_of message.source)
 
--- the area with a length, an end key and the status key 00
-abbrev pub with_text : List ℕ → List ℕ → List ℕ → List ℕ
-with_text digits end_key area =
+-- the area with the length and the end key of a portion, and the status key 00
+abbrev pub with_portion : List ℕ → List ℕ → List ℕ → List ℕ
+with_portion digits end_key area =
     let sized = set_in field.Length area digits in
     with_status S00 (set_in field.EndKey sized end_key)
 
 -- the area that tells of a portion of a message from the leaf with this path; MESSAGE COUNT stays
-abbrev pub given_fields : List (List ℕ) → Message → Portion → List ℕ → List ℕ
-given_fields path message portion area =
-    with_text (in_digits (length portion.text) 4) (portion.end_key ∷ [])
+abbrev pub portion_area : List (List ℕ) → Message → Portion → List ℕ → List ℕ
+portion_area path message portion area =
+    with_portion (in_digits (length portion.text) 4) (portion.end_key ∷ [])
     (with_origin message (path_fields path ++ drop 48 area))
 
 -- the path of a leaf
@@ -43,16 +44,16 @@ path_of_leaf tree leaf = unwrap_or (slice_get (leaf_paths tree) leaf) []
 -- the area that tells of a portion of a message on a leaf
 abbrev pub given_area : List TreeRow → ℕ → Message → Portion → List ℕ → List ℕ
 given_area tree leaf message portion area =
-    given_fields (path_of_leaf tree leaf) message portion area
+    portion_area (path_of_leaf tree leaf) message portion area
 
 -- the area after a RECEIVE that found nothing
 abbrev pub no_data_area : List ℕ → List ℕ
-no_data_area area = with_text (codes "0000") (codes "0") area
+no_data_area area = with_portion (codes "0000") (codes "0") area
 
--- the area after a count: 999999 where more wait
+-- the area after a count: MAX_COUNT where more wait
 abbrev pub counted_area : ℕ → List ℕ → List ℕ
 counted_area count area =
-    with_status S00 (set_in field.Count area (in_digits (min count 999999) 6))
+    with_status S00 (set_in field.Count area (in_digits (min count MAX_COUNT) 6))
 
 -- the field of a level of a path, and spaces where it has no such level
 abbrev pub level_field : List (List ℕ) → ℕ → List ℕ

@@ -1,25 +1,25 @@
 //! What RECEIVE and ACCEPT MESSAGE COUNT write into an area.
-ghost use Rattle.std.specs.Prelude.{◌≡◌, ◌<◌, ◌≤◌, ◌++◌, length, drop};
+ghost use Rattle.std.specs.Prelude.{◌≡◌, ◌≤◌, ◌++◌, length, drop};
 ghost use Rattle.com_text.specs.Text.{IsText};
 ghost use Rattle.com_msg.specs.Portion.{IsEndKey};
 ghost use Rattle.com_cd.specs.Designation.{path_fields};
 ghost use Rattle.com_cd.specs.declared.status.Status.TheVariants.{S20};
-ghost use Rattle.com_recv.specs.Areas.{with_status, with_origin, with_text, no_data_area, counted_area, given_fields, level_field};
+ghost use Rattle.com_recv.specs.Areas.{with_status, with_origin, with_portion, no_data_area, counted_area, portion_area, level_field};
 
 use com_cd::{InArea, InField, Status};
-use com_msg::{Portion, Rest};
+use com_msg::{MAX_SIZE, Portion, Rest};
 use com_text::{FIELD_LENGTH, Name, NamePath, digits_of};
 
 const SPACES: [u8; FIELD_LENGTH] = [b' '; FIELD_LENGTH];
 
 /// The largest number that MESSAGE COUNT tells.
-const MAX_COUNT: usize = 999_999;
+pub const MAX_COUNT: usize = 999_999;
 
 /// The area that tells of a portion of a message that came from the leaf with this path.
-pub fn given_area(path: &NamePath, rest: &Rest, portion: &Portion, area: InArea) -> InArea
-    requires short { length portion.now.text < 10000 }
+pub fn portion_area(path: &NamePath, rest: &Rest, portion: &Portion, area: InArea) -> InArea
+    requires short { length portion.now.text ≤ MAX_SIZE }
     requires end_key { IsEndKey portion.now.end_key }
-    ensures { result ≡ given_fields path.now rest.now portion.now area }
+    ensures { result ≡ portion_area path.now rest.now portion.now area }
 {
     let area = with_names(path, area);
     let area = with_origin(rest, area);
@@ -42,7 +42,7 @@ pub fn refused_area(mut area: InArea) -> InArea
     area
 }
 
-/// The area that tells how many messages wait, and 999999 where more do.
+/// The area that tells how many messages wait, and [`MAX_COUNT`] where more do.
 pub fn counted_area(count: usize, mut area: InArea) -> InArea
     ensures { result ≡ counted_area count area }
 {
@@ -76,6 +76,7 @@ fn field_at(names: &[Name], at: usize) -> [u8; FIELD_LENGTH]
     }
 }
 
+/// The area with the date, the time and the source of a message.
 fn with_origin(rest: &Rest, mut area: InArea) -> InArea
     ensures { result ≡ with_origin rest.now area }
 {
@@ -86,10 +87,11 @@ fn with_origin(rest: &Rest, mut area: InArea) -> InArea
     area
 }
 
+/// The area with the length and the end key of a portion, and the status key 00.
 fn with_portion(length: &[u8; 4], end_key: &[u8; 1], mut area: InArea) -> InArea
     requires length { IsText length.now }
     requires end_key { IsText end_key.now }
-    ensures { result ≡ with_text length.now end_key.now area }
+    ensures { result ≡ with_portion length.now end_key.now area }
 {
     area.set(InField::Length, length);
     area.set(InField::EndKey, end_key);

@@ -3,12 +3,12 @@ ghost use Rattle.std.specs.Prelude.{◌≡◌, ◌<◌, ◌≤◌, Some, length,
 ghost use Rattle.std.specs.List.{remove};
 ghost use Rattle.com_msg.specs.Portion.{IsEndKey};
 ghost use Rattle.com_tree.specs.Written.{leaf_count};
-ghost use Rattle.com_recv.specs.declared.lists.Held.{Held as HeldRow};
-ghost use Rattle.com_recv.specs.declared.lists.Waiting.{Waiting as WaitingRow};
+ghost use Rattle.com_recv.specs.declared.lists.Held.{Held as HeldRest};
+ghost use Rattle.com_recv.specs.declared.lists.Waiting.{Waiting as WaitingMessage};
 ghost use Rattle.com_recv.specs.Areas.{given_area};
 ghost use Rattle.com_recv.specs.Giving.{IsOnTree, Gives};
 
-use crate::areas::given_area;
+use crate::areas::portion_area;
 use crate::lists::{Held, Waiting, hold};
 use com_cd::InArea;
 use com_msg::{Kind, MAX_SIZE, Portion, Rest};
@@ -21,7 +21,7 @@ use std::alloc::AllocError;
 pub struct Request {
     pub unit: u32,
     pub kind: Kind,
-    /// How many characters at most, from 1 to 2,000.
+    /// How many characters at most, from 1 to [`MAX_SIZE`].
     pub size: u32,
 }
 
@@ -34,19 +34,19 @@ pub fn give_held(
     request: Request,
 ) -> Result<Text, AllocError>
     requires at { at < length held.old.items }
-    requires owner { (h : HeldRow) → slice_get held.old.items at ≡ Some h
+    requires owner { (h : HeldRest) → slice_get held.old.items at ≡ Some h
         → h.unit ≡ request.unit }
-    requires leaf { (h : HeldRow) → slice_get held.old.items at ≡ Some h
+    requires leaf { (h : HeldRest) → slice_get held.old.items at ≡ Some h
         → IsOnTree tree.now h.leaf.number h.rest }
     requires size { (1 ≤ request.size) × (request.size ≤ MAX_SIZE) }
-    ensures given { (h : HeldRow) → slice_get held.old.items at ≡ Some h → IfOk result
+    ensures given { (h : HeldRest) → slice_get held.old.items at ≡ Some h → IfOk result
         (Gives tree.now request h.leaf.number h.rest held.old.items area.old area.new
         held.new.items) }
     ensures err { OnErr result ((held.new.items ≡ held.old.items) × (area.new ≡ area.old)) }
 {
     let portion = held[at].rest.take(request.kind, request.size)?;
     let Held { unit, leaf, rest } = held.remove(at);
-    *area = area_of(tree, leaf, &rest, &portion, *area);
+    *area = given_area(tree, leaf, &rest, &portion, *area);
     hold(held, unit, leaf, rest);
     Ok(portion.text)
 }
@@ -61,10 +61,10 @@ pub fn give_waiting(
     request: Request,
 ) -> Result<Text, AllocError>
     requires at { at < length waiting.old.items }
-    requires leaf { (w : WaitingRow) → slice_get waiting.old.items at ≡ Some w
+    requires leaf { (w : WaitingMessage) → slice_get waiting.old.items at ≡ Some w
         → IsOnTree tree.now w.leaf.number w.message }
     requires size { (1 ≤ request.size) × (request.size ≤ MAX_SIZE) }
-    ensures given { (w : WaitingRow) → slice_get waiting.old.items at ≡ Some w → IfOk result
+    ensures given { (w : WaitingMessage) → slice_get waiting.old.items at ≡ Some w → IfOk result
         (Gives tree.now request w.leaf.number w.message held.old.items area.old area.new
         held.new.items) }
     ensures taken { IfOk result (λ text. waiting.new.items ≡ remove waiting.old.items at) }
@@ -74,17 +74,17 @@ pub fn give_waiting(
     held.try_reserve(1)?;
     let portion = waiting[at].message.take(request.kind, request.size)?;
     let Waiting { leaf, message } = waiting.remove(at);
-    *area = area_of(tree, leaf, &message, &portion, *area);
+    *area = given_area(tree, leaf, &message, &portion, *area);
     hold(held, request.unit, leaf, message);
     Ok(portion.text)
 }
 
 /// The area that tells of a portion of a message from a leaf.
-fn area_of(tree: &Tree, leaf: Leaf, rest: &Rest, portion: &Portion, area: InArea) -> InArea
+fn given_area(tree: &Tree, leaf: Leaf, rest: &Rest, portion: &Portion, area: InArea) -> InArea
     requires leaf { leaf.number < leaf_count tree.now }
-    requires short { length portion.now.text < 10000 }
+    requires short { length portion.now.text ≤ MAX_SIZE }
     requires end_key { IsEndKey portion.now.end_key }
     ensures { result ≡ given_area tree.now leaf.number rest.now portion.now area }
 {
-    given_area(&tree.path(leaf), rest, portion, area)
+    portion_area(&tree.path(leaf), rest, portion, area)
 }

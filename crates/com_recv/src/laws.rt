@@ -5,7 +5,7 @@ ghost use Rattle.com_tree.specs.declared.tree.TreeRow.{TreeRow as TreeNode};
 ghost use Rattle.com_tree.specs.declared.tree.Node.{Node as NodeOf};
 ghost use Rattle.com_tree.specs.Written.{IsWritten};
 ghost use Rattle.com_tree.specs.Places.{node_with};
-ghost use Rattle.com_recv.specs.declared.lists.Waiting.{Waiting as WaitingRow};
+ghost use Rattle.com_recv.specs.declared.lists.Waiting.{Waiting as WaitingMessage};
 ghost use Rattle.com_recv.specs.Incoming.{Incoming, designated, chosen_leaf, has_message, has_rest};
 ghost use Rattle.com_recv.specs.Receiving.{has_data};
 
@@ -19,7 +19,7 @@ pub fn an_area_designates_by_its_path()
 /// Whether a node chooses a leaf is what `has_message` tells: that a message waits on a leaf under
 /// it.
 pub fn has_message_tells_whether_a_leaf_is_chosen()
-    ensures { (tree : List TreeNode) (waiting : List WaitingRow) (node : NodeOf) →
+    ensures { (tree : List TreeNode) (waiting : List WaitingMessage) (node : NodeOf) →
         IsWritten tree → node.row < length tree →
         is_some (chosen_leaf tree waiting node) ≡ has_message tree waiting node }
 {}

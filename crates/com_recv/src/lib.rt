@@ -17,7 +17,8 @@
 //! - [`Queues::count`] is ACCEPT MESSAGE COUNT. [`Queues::choice`] is the leaf that a node chooses.
 //! - [`Queues::has_data`] and [`Queues::has_message`] say whether a unit, or anyone, would be given
 //!   something.
-//! - The laws say which node an area designates, and that something is chosen exactly where it waits.
+//! - The laws say which node an area designates, and that a node chooses a leaf exactly where a message
+//!   waits under it.
 //!
 //! Without memory nothing changes: [`Queues::put`] then hands the message back.
 #![tactic(auto)]

@@ -86,6 +86,7 @@ pub fn hold(held: &mut Vec<Held>, unit: u32, leaf: Leaf, rest: Rest)
 {
     release(held, unit, leaf);
     if !rest.is_spent() {
+        // In front, as `holding` has it. No answer tells the place: a unit holds one rest from a leaf.
         held.insert(0, Held { unit, leaf, rest }).unwrap();
     }
 }

@@ -27,8 +27,8 @@ pub enum Taken {
     Unknown,
 }
 
-/// What waits on the leaves of a tree, and what units hold of it. Contracts see both as lists. Each
-/// call is made with the tree that the queues were made for.
+/// What waits on the leaves of a tree, and what units hold of it. Contracts see a record of two
+/// lists. Each call is made with the tree that the queues were made for.
 #[derive(Debug, Drop)]
 pub struct Queues {
     waiting: Vec<Waiting>,
@@ -172,7 +172,7 @@ impl Queues {
         requires node { node.row < length tree.now }
         ensures leaf { option_map (λ leaf. leaf.number) result
             ≡ chosen_leaf tree.now self.now.waiting node }
-        ensures some { is_some result ≡ has_message tree.now self.now.waiting node }
+        ensures message { is_some result ≡ has_message tree.now self.now.waiting node }
         ensures within { IfSome result (λ leaf. leaf.number < leaf_count tree.now) }
     {
         let heads = heads_of(&self.waiting);

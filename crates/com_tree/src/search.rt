@@ -188,7 +188,7 @@ fn head_on(heads: &[Option<u64>], leaf: u32) -> u64
 /// The path of one to four names.
 fn path_of(names: &[Name]) -> NamePath
     requires not_empty { 1 ≤ length names.now }
-    requires few { length names.now ≤ 4 }
+    requires few { length names.now ≤ MAX_NAMES }
     ensures { result ≡ names.now }
 {
     let mut path = NamePath::new(names[0]);

@@ -79,7 +79,7 @@ impl Tree {
         Tree { rows }
     }
 
-    /// An equal tree. Err if memory runs out.
+    /// An equal tree. The only error is want of memory.
     pub fn copy(&self) -> Result<Tree, AllocError>
         ensures { IfOk result (λ copy. copy ≡ self.now) }
     {

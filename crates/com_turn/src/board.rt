@@ -117,11 +117,16 @@ impl<V: Logged> Board<V> {
     }
 
     pub(crate) fn commit<C: Chosen<V::Item>>(&self, seat: &mut SeatOf<V>, item: &V::Item)
+        // The seat is one of this table, and at its turn.
         requires own { seat.old.table_id ≡ self.now }
         requires at_turn { (is_at_turn seat.old.me.0.stage ≡ true) × (seat.old.me.0.spent ≡ false) }
+
+        // The item is the one that the step picks, and the seat's own; one more can be counted.
         requires chosen { C.item ≡ Some item.now }
         requires owner { V.owner item.now ≡ seat.old.me.0.known.number }
         requires room { length seat.old.me.0.known.seen < 2 ^ 63 }
+
+        // The seat has seen it then.
         ensures own { seat.new.table_id ≡ seat.old.table_id }
         ensures committed { seat.new.me ≡ (with_item item.now seat.old.me.0, seat.old.me.1) }
     {

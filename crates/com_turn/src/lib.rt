@@ -16,8 +16,8 @@
 //! let Ok((turn, passes)) = Turn::open(alloc, diary, 2) else { .. };
 //! // then each thread with its pass:
 //! let mut diary = turn.take(rt, &mut pass);
-//! if diary.push(&row).is_ok() {
-//!     turn.commit(&mut pass, &row);
+//! if diary.push(&entry).is_ok() {
+//!     turn.commit(&mut pass, &entry);
 //! }
 //! turn.give(&mut pass, diary);
 //! ```

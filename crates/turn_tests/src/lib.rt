@@ -16,7 +16,7 @@ mod tests;
 
 /// What one party wrote, with a number of its own.
 #[derive(Clone, Copy)]
-pub struct Row {
+pub struct Note {
     pub owner: u32,
     pub number: u32,
 }
@@ -24,19 +24,19 @@ pub struct Row {
 #[derive(Drop)]
 pub struct Diary {
     pub title: u32,
-    pub rows: Vec<Row>,
+    pub notes: Vec<Note>,
 }
 
 impl Logged for Diary {
-    type Item = Row;
+    type Item = Note;
 
     type Base = u32;
 
-    ghost log = { λ d. d.rows.items };
+    ghost log = { λ d. d.notes.items };
 
     ghost base = { λ d. d.title };
 
-    ghost owner = { λ row. row.owner };
+    ghost owner = { λ note. note.owner };
 }
 
 /// An empty diary, and a pass for each of its writers.
@@ -51,7 +51,7 @@ pub fn open(
 {
     let diary = Diary {
         title,
-        rows: Vec::new(alloc),
+        notes: Vec::new(alloc),
     };
     match Turn::open(alloc, diary, parties) {
         Ok(opened) => Ok(opened),
@@ -72,35 +72,35 @@ pub fn last_pass(turn: &Turn<Diary>, passes: &mut Vec<Pass<Diary>>) -> Pass<Diar
     pass
 }
 
-/// Writes a row in a turn, if there is memory.
-pub fn write_row(rt: &impl Wait, turn: &Turn<Diary>, pass: &mut Pass<Diary>, number: u32)
+/// Writes a note in a turn, if there is memory.
+pub fn write_note(rt: &impl Wait, turn: &Turn<Diary>, pass: &mut Pass<Diary>, number: u32)
     requires { (pass.old.turn ≡ turn.now) × (pass.old.at_turn ≡ false) }
     ensures { IsAfter 1 pass.old pass.new }
 {
     let mut diary = turn.take(rt, pass);
-    let row = Row {
+    let note = Note {
         owner: pass.number(),
         number,
     };
-    if diary.rows.len() < 1 << 62 && diary.rows.push(row).is_ok() {
-        turn.commit(pass, &row);
+    if diary.notes.len() < 1 << 62 && diary.notes.push(note).is_ok() {
+        turn.commit(pass, &note);
     }
     turn.give(pass, diary);
 }
 
-/// Writes rows with the numbers from 0, each in a turn of its own.
-pub fn write_rows(rt: &impl Wait, turn: &Turn<Diary>, pass: Pass<Diary>, count: u32) -> Pass<Diary>
+/// Writes notes with the numbers from 0, each in a turn of its own.
+pub fn write_notes(rt: &impl Wait, turn: &Turn<Diary>, pass: Pass<Diary>, count: u32) -> Pass<Diary>
     requires { (pass.turn ≡ turn.now) × (pass.at_turn ≡ false) }
     ensures { IsAfter count pass result }
 {
     let mut pass = pass;
     for number in 0..count {
-        write_row(rt, turn, &mut pass, number);
+        write_note(rt, turn, &mut pass, number);
     }
     pass
 }
 
-/// Two threads of a scope write rows, and whether both could be started.
+/// Two threads of a scope write notes, and whether both could be started.
 pub fn write_in_scope<R: Threads + Wait + Sync>(
     rt: &R,
     turn: &Turn<Diary>,
@@ -119,19 +119,19 @@ pub fn write_in_scope<R: Threads + Wait + Sync>(
             let one = scope.spawn(
                 move ||
                     requires { IsFree turn.now first }
-                { drop(write_rows(rt, turn, first, count)) },
+                { drop(write_notes(rt, turn, first, count)) },
             );
             let other = scope.spawn(
                 move ||
                     requires { IsFree turn.now second }
-                { drop(write_rows(rt, turn, second, count)) },
+                { drop(write_notes(rt, turn, second, count)) },
             );
             one.is_ok() && other.is_ok()
         },
     )
 }
 
-/// Four threads write rows, each with a pass of its own, and whether they could be started.
+/// Four threads write notes, each with a pass of its own, and whether they could be started.
 pub fn write_in_two_scopes<R: Threads + Wait + Sync>(
     rt: &R,
     turn: &Turn<Diary>,
@@ -181,14 +181,14 @@ pub fn set_active(rt: &impl Wait, turn: &Turn<Diary>, pass: &mut Pass<Diary>, en
     count
 }
 
-/// How many are active, and how many rows there are.
+/// How many are active, and how many notes there are.
 pub fn look(rt: &impl Wait, turn: &Turn<Diary>, pass: &mut Pass<Diary>) -> (u64, usize)
     requires { (pass.old.turn ≡ turn.now) × (pass.old.at_turn ≡ false) }
     ensures { IsAfter 1 pass.old pass.new }
 {
     let diary = turn.take(rt, pass);
     let count = turn.active(pass);
-    let rows = diary.rows.len();
+    let notes = diary.notes.len();
     turn.give(pass, diary);
-    (count, rows)
+    (count, notes)
 }

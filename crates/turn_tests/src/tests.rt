@@ -2,14 +2,14 @@ use super::*;
 use std::process::Abort;
 use std::test::Fail;
 
-// The rows of each owner have the numbers from 0 to below `count`, in order, and there are no others.
-fn assert_rows(rt: &impl Abort, diary: &Diary, owners: usize, count: u32) {
+// The notes of each owner have the numbers from 0 to below `count`, in order, and there are no others.
+fn assert_notes(rt: &impl Abort, diary: &Diary, owners: usize, count: u32) {
     let mut next = [0u32; 4];
-    for row in &diary.rows {
-        let owner = row.owner as usize;
+    for note in &diary.notes {
+        let owner = note.owner as usize;
         assert!(rt; owner < owners && owner < 4);
-        assert!(rt; next[owner] == row.number);
-        next[owner] = row.number.wrapping_add(1);
+        assert!(rt; next[owner] == note.number);
+        next[owner] = note.number.wrapping_add(1);
     }
     for number in next.iter().take(owners) {
         assert!(rt; *number == count);
@@ -24,7 +24,7 @@ fn two_owners(rt: HostRuntime) -> Result<(), Fail> {
     let first = last_pass(&turn, &mut passes);
     assert!(&rt; write_in_scope(&rt, &turn, first, second, 1000));
     let diary = turn.take(&rt, &mut reader);
-    assert_rows(&rt, &diary, 2, 1000);
+    assert_notes(&rt, &diary, 2, 1000);
     turn.give(&mut reader, diary);
     Ok(())
 }
@@ -40,7 +40,7 @@ fn four_passes_in_four_threads(rt: HostRuntime) -> Result<(), Fail> {
     assert!(&rt; write_in_two_scopes(&rt, &turn, (first, second), (third, fourth), 250));
     let diary = turn.take(&rt, &mut reader);
     assert!(&rt; diary.title == 7);
-    assert_rows(&rt, &diary, 4, 250);
+    assert_notes(&rt, &diary, 4, 250);
     turn.give(&mut reader, diary);
     Ok(())
 }
@@ -76,7 +76,7 @@ fn late_pass_sees_what_another_wrote(rt: HostRuntime) -> Result<(), Fail> {
     let mut second = last_pass(&turn, &mut passes);
     let mut first = last_pass(&turn, &mut passes);
     assert!(&rt; second.number() == 1);
-    write_row(&rt, &turn, &mut first, 0);
+    write_note(&rt, &turn, &mut first, 0);
     assert!(&rt; look(&rt, &turn, &mut second).1 == 1);
     Ok(())
 }

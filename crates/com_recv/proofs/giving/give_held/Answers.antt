@@ -9,8 +9,8 @@ use Rattle.com_recv.proofs.Taking.{others_stay, filter_remove, gives, taken_out,
 use Rattle.com_recv.proofs.giving.give_held.Goals as goal
 
 -- the leaf of what was taken out
-pub area_of-requires-clause-leaf : goal.area_of-requires-clause-leaf
-area_of-requires-clause-leaf c =
+pub given_area-requires-clause-leaf : goal.given_area-requires-clause-leaf
+given_area-requires-clause-leaf c =
     let held = c.args.held.now.items in
     let h = c.index_mut.result.now in
     let there : slice_get held c.args.at ≡ Some h = slice_get_read held (length held) c.args.at h refl c.requires.at c.index_mut.ensures.value in
@@ -33,9 +33,9 @@ returns-clause-given c = λ h is.
     let behind : without_held l.unit l.leaf.number c.remove-unit.new.self.items ≡ without_held l.unit l.leaf.number held = ap (without_held l.unit l.leaf.number) before ∙ others in
     let kept : c.hold.new.held.items ≡ holding request.unit l.leaf.number c.take.new.self c.remove-unit.new.self.items =
     c.hold.ensures ∙ (ap (λ (r : Held). holding r.unit r.leaf.number r.rest c.remove-unit.new.self.items) out ∙ ap (λ unit. holding unit l.leaf.number c.take.new.self c.remove-unit.new.self.items) own) in
-    let given = gives tree request l.leaf.number l.rest c.take.new.self c.in_ok-portion.portion held c.remove-unit.new.self.items c.args.area.now c.area_of.result c.hold.new.held.items
+    let given = gives tree request l.leaf.number l.rest c.take.new.self c.in_ok-portion.portion held c.remove-unit.new.self.items c.args.area.now c.given_area.result c.hold.new.held.items
     c.in_ok-portion.ensures.portion
-    (c.area_of.ensures ∙ ap (λ (r : Held). given_area tree r.leaf.number r.rest c.in_ok-portion.portion c.args.area.now) out)
+    (c.given_area.ensures ∙ ap (λ (r : Held). given_area tree r.leaf.number r.rest c.in_ok-portion.portion c.args.area.now) out)
     kept
     (rw own at behind) in
-    subst (λ (x : Held). Gives tree request x.leaf.number x.rest held c.args.area.now c.area_of.result c.hold.new.held.items c.in_ok-portion.portion.text) (lent held c.args.at l h c.requires.at c.index_mut.ensures.value is) given
+    subst (λ (x : Held). Gives tree request x.leaf.number x.rest held c.args.area.now c.given_area.result c.hold.new.held.items c.in_ok-portion.portion.text) (lent held c.args.at l h c.requires.at c.index_mut.ensures.value is) given

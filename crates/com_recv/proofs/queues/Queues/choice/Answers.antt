@@ -15,7 +15,7 @@ returns-clause-leaf c =
     ∙ (chosen_by_heads tree c.deref.result.now c.args.node c.heads_of-heads.result c.leaves.result c.heads_of-heads.ensures c.leaves.ensures.few all
     ∙ rw (c.deref.ensures.value, ← c.self.view_is) refl)
 
-pub returns-clause-some : goal.returns-clause-some
-returns-clause-some c =
+pub returns-clause-message : goal.returns-clause-message
+returns-clause-message c =
     sym (some_message (λ (leaf : Leaf). leaf.number) c.next.result)
     ∙ (ap is_some (returns-clause-leaf c) ∙ chosen_where_awaited c.args.tree.now c.args.self.now.waiting c.args.node c.requires.tree.written c.requires.node)

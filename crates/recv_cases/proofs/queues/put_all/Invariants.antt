@@ -1,7 +1,7 @@
 use Rattle.std.proofs.Common.{◌+◌, ◌<◌}
 use Rattle.std.specs.List.{All}
 use Rattle.com_recv.specs.Incoming.{IsTreeOf}
-use Rattle.state_cases.proofs.queues.put_all.Given as goal
+use Rattle.recv_cases.proofs.queues.put_all.Given as goal
 
 -- the trees have the leaves of what waits, which came before the next message
 abbrev pub invariant-loop-at : goal.invariant-loop-at
