@@ -9,7 +9,8 @@ use Rattle.com_events.specs.declared.call.Party.{Party}
 use Rattle.com_events.specs.declared.call.EndReason.{EndReason}
 use Rattle.com_events.specs.declared.call.EndReason.TheVariants as finish
 use Rattle.com_events.specs.declared.entry.Entry.{Entry}
-use Rattle.com_feed.specs.Fed.{AreFed, Fed, FedSoFar, Gives, IsPrefixOf, arrivals_of, finished, is_end, message_of}
+use Rattle.com_events.specs.Fronts.{IsPrefixOf}
+use Rattle.com_feed.specs.Fed.{AreFed, Fed, FedSoFar, Gives, arrivals_of, finished, is_end, message_of}
 
 arrivals-append : (xs ys : List Entry) → arrivals_of (xs ++ ys) ≡ arrivals_of xs ++ arrivals_of ys
 arrivals-append xs ys = flat_map-append (λ (entry : Entry). message_of entry.call) xs ys

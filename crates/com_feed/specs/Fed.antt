@@ -12,6 +12,7 @@ use Rattle.com_events.specs.declared.call.Call.{Call}
 use Rattle.com_events.specs.declared.call.Call.TheVariants.{Arrive, Held, Finish}
 use Rattle.com_events.specs.declared.reply.Reply.TheVariants.{Done}
 use Rattle.com_events.specs.declared.entry.Entry.{Entry}
+use Rattle.com_events.specs.Fronts.{IsPrefixOf}
 
 -- how many bytes of an input are looked at
 abbrev pub input_limit : ℕ
@@ -19,9 +20,6 @@ input_limit = 1048576
 
 abbrev pub looked_at : List ℕ → List ℕ
 looked_at bytes = take input_limit bytes
-
-abbrev pub IsPrefixOf : {X : Type 0} → List X → List X → Type 0
-IsPrefixOf {X} front whole = (rest : List X) × (whole ≡ front ++ rest)
 
 -- a prefix that is not all
 abbrev pub IsProperPrefixOf : {X : Type 0} → List X → List X → Type 0

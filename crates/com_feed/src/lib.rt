@@ -5,6 +5,14 @@
 //! it was held until the end (`Fed`); and which have arrived before (`FedSoFar`). The entries are the
 //! terminal's own, so of a history those of this party.
 //!
+//! ```rust
+//! ghost use Rattle.com_feed.specs.Fed.{Fed};
+//!
+//! /// Does all calls of a terminal whose input is these bytes, line by line.
+//! fn play(terminal: Party, bytes: &[u8]) -> Rows<Entry>
+//!     ensures { Fed terminal Framing.Lines bytes.now None result }
+//! ```
+//!
 //! These are definitions, on which no code stands yet, with their laws.
 #![tactic(auto)]
 

@@ -173,7 +173,7 @@ sound_change S next arrived handed (stops none no_portion stop) sound = sound_st
 sound_change S next arrived handed (gives none give) sound = sound_gives S next handed give sound
 
 -- each element still holds, with one changed
-all_at : {X : Type 0} (P : X → Type 0) (xs : List X) (i : ℕ) (f : X → X) → All P xs → ((x : X) → slice_get xs i ≡ Some x → P x → P (f x)) → All P (at_place xs i f)
+pub all_at : {X : Type 0} (P : X → Type 0) (xs : List X) (i : ℕ) (f : X → X) → All P xs → ((x : X) → slice_get xs i ≡ Some x → P x → P (f x)) → All P (at_place xs i f)
 all_at {X} P xs i f all keeps = elim (option_cases (slice_get xs i)) [
   | inl none ↦ let same : at_place xs i f ≡ xs = rw (none, at_place) refl in rw same all
   | inr some ↦
@@ -234,7 +234,7 @@ consistent_step net S next (party.Terminal name) call reply is same form stepped
     consistent_from S next made.net sizes (ap length made.units) (ap length made.terminals ∙ length-at_place S.terminals its.0 _)
     (rw made.units sound.verbs) (rw made.terminals (all_at (λ (t : TerminalState). t.arrivals ≤ MAX_ARRIVALS) S.terminals its.0 _ sound.arrivals made.counted)) incoming sound
 
-all_replicated : {X : Type 0} (P : X → Type 0) (n : ℕ) (x : X) → P x → All P (replicate n x)
+pub all_replicated : {X : Type 0} (P : X → Type 0) (n : ℕ) (x : X) → P x → All P (replicate n x)
 all_replicated {X} P zero x one = λ k d within. absurd (omega (arith, within))
 all_replicated {X} P (suc n) x one = All-cons P x (replicate n x) one (all_replicated P n x one)
 

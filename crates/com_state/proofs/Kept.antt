@@ -24,7 +24,7 @@ use Rattle.com_send.specs.Sending.{deliver, serve_part, serve, sent_text, send_f
 use Rattle.com_send.specs.Switching.{switch, is_key_of_each, switch_found}
 use Rattle.com_state.specs.State.{State, destinations_of}
 use Rattle.com_state.specs.Switches.{is_key, switch_leaves, switch_terminal, switch_input}
-use Rattle.com_state.specs.Wholeness.{IsPrefixOf}
+use Rattle.com_events.specs.Fronts.{IsPrefixOf}
 use Rattle.com_state.specs.Laws.{Keeps, queue_for, enables_output}
 use Rattle.com_state.proofs.Frames.{option_cases, SameQueues, same_queues}
 use Rattle.com_state.proofs.Aside.{SameInput}

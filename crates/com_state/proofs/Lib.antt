@@ -5,6 +5,7 @@ mod Branches
 mod Changes
 mod Changing
 mod Chosen
+mod Counts
 mod Firsts
 pub mod Frames
 mod Giving

@@ -40,6 +40,7 @@ use Rattle.com_send.specs.Found.{Found, destination_with, find_destinations, is_
 use Rattle.com_send.specs.Sending.{is_nothing, sent_text, send_found, send_status, has_disabled}
 use Rattle.com_send.specs.Switching.{is_key_of_each, switch_found, switch_status}
 use Rattle.com_state.proofs.StepCases.{step_of_unit, step_of_terminal}
+use Rattle.com_recv.specs.declared.areas.TheConstants.{MAX_COUNT}
 
 -- what is written at a place is read there
 read_back : (area key : List ℕ) (at width : ℕ) → at ≤ length area → length key ≡ width
@@ -137,7 +138,7 @@ alone_count : (S : State) (area : List ℕ) (status : Status) → length area �
 alone_count S area status whole = elim (option_cases (designated S.net.tree area)) [
   | inl none ↦ rw (none, count) (refused_in S (made.Count area) area S20 status (λ s. refl) (omega (arith, whole)))
   | inr some ↦
-      let digits = in_digits (min (waiting_under S.net.tree S.incoming.waiting some.0) 999999) 6 in
+      let digits = in_digits (min (waiting_under S.net.tree S.incoming.waiting some.0) MAX_COUNT) 6 in
       let long : 79 ≤ length (set_in field.Count area digits) =
       omega (arith, whole, length-append (take 81 area ++ digits) (drop 87 area), length-append (take 81 area) digits, length-take-le 81 area (omega (arith, whole))) in
       rw (some.1, count) (done_in S S (made.Count area) (set_in field.Count area digits) S00 status refl long)

@@ -17,7 +17,7 @@ use Rattle.com_cd.specs.declared.output_area.OutField.TheVariants as out
 use Rattle.com_msg.specs.declared.sending.OutMessage.{OutMessage}
 use Rattle.com_recv.specs.declared.lists.Held.{Held}
 use Rattle.com_state.specs.State.{State}
-use Rattle.com_state.specs.Wholeness.{IsPrefixOf}
+use Rattle.com_events.specs.Fronts.{IsPrefixOf}
 
 -- ARRIVE
 abbrev pub is_arrival : Call → Bool

@@ -1,5 +1,5 @@
 -- What the entries of one party tell of it.
-use Rattle.std.specs.Prelude.{ℕ, ◌+◌, Bool, true, false, nat_lt, List, Option, Some, None}
+use Rattle.std.specs.Prelude.{ℕ, ◌+◌, Bool, true, false, ◌&&◌, nat_lt, List, Option, Some, None}
 use Rattle.std.specs.List.{filter, fold}
 use Rattle.std.specs.Str.{bytes_eq}
 use Rattle.com_events.specs.declared.call.Party.{Party}
@@ -11,7 +11,7 @@ use Rattle.com_events.specs.declared.call.Call.TheVariants.{Start, Receive, Coun
 use Rattle.com_events.specs.declared.reply.Reply.{Reply}
 use Rattle.com_events.specs.declared.reply.Reply.TheVariants.{Waits}
 use Rattle.com_events.specs.declared.entry.Entry.{Entry}
-use Rattle.com_state.specs.declared.parties.TheConstants.{MAX_VERBS}
+use Rattle.com_state.specs.declared.parties.TheConstants.{MAX_VERBS, MAX_ARRIVALS}
 use Rattle.com_state.specs.declared.parties.UnitMode.{UnitMode}
 use Rattle.com_state.specs.declared.parties.UnitMode.TheVariants.{Dormant, Running, WaitingFor, Stopped}
 use Rattle.com_state.specs.declared.parties.UnitState.{UnitState}
@@ -19,6 +19,7 @@ use Rattle.com_state.specs.declared.parties.TerminalMode.{TerminalMode}
 use Rattle.com_state.specs.declared.parties.TerminalMode.TheVariants.{Feeding, Holding, Ended}
 use Rattle.com_state.specs.declared.parties.TerminalState.{TerminalState}
 use Rattle.com_state.specs.State.{opening_unit, opening_terminal}
+use Rattle.com_state.specs.Steps.{is_waiting_for}
 
 -- the same party
 abbrev pub is_party : Party → Party → Bool
@@ -74,12 +75,18 @@ abbrev pub is_free : UnitMode → ℕ → Bool
 is_free Running verbs = nat_lt verbs MAX_VERBS
 is_free _ verbs = false
 
+-- not settled where a test holds, and no where it fails
+abbrev pub only_if : Bool → Option Bool
+only_if true = None
+only_if false = Some false
+
 -- Whether a unit may make a call, where its own mode and count settle it; none where it depends on
 -- what waits, on what is held or on the other parties too.
 abbrev pub may_by_unit : Call → UnitMode → ℕ → Option Bool
 may_by_unit Start Dormant verbs = None
 may_by_unit Start _ verbs = Some false
-may_by_unit (Receive area kind size no_data) (WaitingFor own own_kind own_size) verbs = None
+may_by_unit (Receive area kind size no_data) (WaitingFor own own_kind own_size) verbs =
+    only_if (nat_lt verbs MAX_VERBS && is_waiting_for (Some (WaitingFor own own_kind own_size)) area kind size no_data)
 may_by_unit (Receive area kind size no_data) mode verbs = Some (is_free mode verbs)
 may_by_unit (Count area) mode verbs = Some (is_free mode verbs)
 may_by_unit (Send area part item) mode verbs = Some (is_free mode verbs)
@@ -93,13 +100,13 @@ may_by_unit (Stop reason) _ verbs = Some false
 may_by_unit _ mode verbs = Some false
 
 -- the same of a terminal; what depends on routes and flags is not settled by it alone
-abbrev pub may_by_terminal : Call → TerminalMode → Option Bool
-may_by_terminal (Arrive stamp message) Ended = Some false
-may_by_terminal (Arrive stamp message) _ = None
-may_by_terminal Held Feeding = None
-may_by_terminal Held _ = Some false
-may_by_terminal (Finish finish.Idle) Holding = None
-may_by_terminal (Finish finish.Idle) _ = Some false
-may_by_terminal (Finish reason) Feeding = Some true
-may_by_terminal (Finish reason) _ = Some false
-may_by_terminal _ mode = Some false
+abbrev pub may_by_terminal : Call → TerminalMode → ℕ → Option Bool
+may_by_terminal (Arrive stamp message) Ended arrivals = Some false
+may_by_terminal (Arrive stamp message) _ arrivals = only_if (nat_lt arrivals MAX_ARRIVALS)
+may_by_terminal Held Feeding arrivals = only_if (nat_lt arrivals MAX_ARRIVALS)
+may_by_terminal Held _ arrivals = Some false
+may_by_terminal (Finish finish.Idle) Holding arrivals = None
+may_by_terminal (Finish finish.Idle) _ arrivals = Some false
+may_by_terminal (Finish reason) Feeding arrivals = Some true
+may_by_terminal (Finish reason) _ arrivals = Some false
+may_by_terminal _ mode arrivals = Some false

@@ -16,6 +16,11 @@ use Rattle.com_state.specs.Parties.{entries_of, unit_by, terminal_by}
 abbrev pub AreApart : Held → Held → Type 0
 AreApart h other = h.unit ≡ other.unit → h.leaf.number ≢ other.leaf.number
 
+-- no count is beyond its limit
+pub record KeepsLimits (S : State) : Type 0 where
+  pub verbs : All (λ unit. unit.verbs ≤ MAX_VERBS) S.units
+  pub arrivals : All (λ terminal. terminal.arrivals ≤ MAX_ARRIVALS) S.terminals
+
 -- There is a flag for each leaf and for the input of each terminal, and a state for each unit and
 -- each terminal, as a terminal and as a destination; no count is beyond its limit. A unit holds one
 -- rest from a leaf at most, and no rest is spent. The messages that wait stand in the order of their

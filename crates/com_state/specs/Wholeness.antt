@@ -22,10 +22,7 @@ use Rattle.com_state.specs.State.{State, opening, unit_mode}
 use Rattle.com_net.specs.Numbers.{unit_number, terminal_number}
 use Rattle.com_state.specs.Steps.{step, feed_of}
 use Rattle.com_state.specs.Histories.{Legal, LeadsTo}
-
--- the other list begins with this one
-abbrev pub IsPrefixOf : {X : Type 0} → List X → List X → Type 0
-IsPrefixOf {X} front whole = (rest : List X) × (whole ≡ front ++ rest)
+use Rattle.com_events.specs.Fronts.{IsPrefixOf}
 
 -- one portion that a unit was given: of which message, by its arrival number and its leaf, and what
 pub record HandedOut : Type 0 where

@@ -47,7 +47,7 @@ ghost use Rattle.com_state.specs.Parties.{
   may_by_unit,
   may_by_terminal,
 };
-ghost use Rattle.com_state.specs.Reached.{IsConsistent, IsToldBy};
+ghost use Rattle.com_state.specs.Reached.{IsConsistent, KeepsLimits, IsToldBy};
 ghost use Rattle.com_state.specs.Steps.{step, is_idle};
 ghost use Rattle.com_state.specs.Wholeness.{EveryHistoryIsWhole};
 ghost use Rattle.com_state.specs.Laws.{Keeps, rests_of, is_refusal, is_idle_call, Tells, ChangesStatusAlone};
@@ -197,6 +197,12 @@ pub fn every_state_reached_is_consistent()
         IsConsistent last }
 {}
 
+/// Whatever its calls are, no legal history passes the limit of a unit's verbs or of a terminal's arrivals.
+pub fn no_count_passes_its_limit()
+    ensures { (net : NetOf) (history : List EntryOf) (last : SystemState) →
+        LeadsTo (opening net) history last → KeepsLimits last }
+{}
+
 /// The entries of a party alone tell its mode and its count.
 pub fn entries_tell_of_their_party()
     ensures { (net : NetOf) (history : List EntryOf) (last : SystemState) →
@@ -215,6 +221,6 @@ pub fn entries_tell_what_their_party_may_do()
         (name : List ℕ) (terminal : ℕ) (call : CallOf) (may : Bool) →
         LeadsTo (opening net) history last → terminal_number net name ≡ Some terminal →
         may_by_terminal call (terminal_by (entries_of (party.Terminal name) history)).mode
-        ≡ Some may →
+        (terminal_by (entries_of (party.Terminal name) history)).arrivals ≡ Some may →
         is_some (step last (party.Terminal name) call) ≡ may }
 {}

@@ -49,8 +49,9 @@ pub use laws::{
     a_step_is_determined, a_step_is_one_entry_more, an_idle_system_only_stops_and_ends,
     entries_tell_of_their_party, entries_tell_what_their_party_may_do, every_history_is_whole,
     every_state_reached_is_consistent, no_call_is_left_at_the_end,
-    no_calls_run_behind_such_as_do_not, nothing_is_left_of_a_stopped_unit,
-    others_are_left_by_a_stop, others_keep_their_rests, shown_is_legal, step_keeps,
+    no_calls_run_behind_such_as_do_not, no_count_passes_its_limit,
+    nothing_is_left_of_a_stopped_unit, others_are_left_by_a_stop, others_keep_their_rests,
+    shown_is_legal, step_keeps,
 };
 pub use parties::{MAX_ARRIVALS, MAX_VERBS, TerminalMode, TerminalState, UnitMode, UnitState};
 pub use state::State;

@@ -51,8 +51,8 @@ impl Model for State {
 }
 
 impl State {
-    /// The state of a network in which nothing has happened. It has a copy of the network. An error
-    /// says that memory ran out.
+    /// The state of a network in which nothing has happened. It has a copy of the network. The only
+    /// error is want of memory.
     pub fn open(net: &Net) -> Result<State, AllocError>
         ensures { IfOk result (λ state. state ≡ opening net.now) }
     {
