@@ -10,15 +10,14 @@ use std::alloc::{AllocError, Global};
 /// The call of a line, with its parts.
 pub fn call_line(alloc: Global, line: &[u8]) -> Result<String, AllocError> {
     match read_line(alloc, line)? {
-        Some((party, call)) => {
-            let call = shown(alloc, &call)?;
-            with_party(alloc, &party, &call)
-        }
+        Some((party, call)) => of_party(alloc, &party, &call),
         None => String::from_str(alloc, "None"),
     }
 }
 
-fn with_party(alloc: Global, party: &Party, call: &String) -> Result<String, AllocError> {
+/// A call with its parts, behind its party.
+pub fn of_party(alloc: Global, party: &Party, call: &Call) -> Result<String, AllocError> {
+    let call = shown(alloc, call)?;
     match party {
         Party::Unit(name) => format!(in alloc; "unit {}: {}", name.as_str(), call),
         Party::Terminal(name) => format!(in alloc; "terminal {}: {}", name.as_str(), call),
@@ -26,7 +25,7 @@ fn with_party(alloc: Global, party: &Party, call: &String) -> Result<String, All
 }
 
 /// A call with its parts.
-pub fn shown(alloc: Global, call: &Call) -> Result<String, AllocError> {
+fn shown(alloc: Global, call: &Call) -> Result<String, AllocError> {
     match call {
         Call::Start => String::from_str(alloc, "Start"),
         Call::Held => String::from_str(alloc, "Held"),

@@ -1,5 +1,5 @@
 //! Journals and scripts.
-use crate::calls::shown;
+use crate::calls::of_party;
 use case_lines::Quoted;
 use com_events::{Entry, Reply};
 use com_journal::{JournalError, write};
@@ -11,10 +11,10 @@ pub fn read_calls(alloc: Global, bytes: &[u8]) -> Result<String, AllocError> {
         Ok(calls) => {
             let mut out = format!(in alloc; "{} calls:", calls.as_slice().len())?;
             let mut between = " ";
-            for (_, call) in calls.as_slice() {
-                let shown = shown(alloc, call)?;
+            for (party, call) in calls.as_slice() {
+                let call = of_party(alloc, party, call)?;
                 out.push_str(between)?;
-                out.push_str(&shown)?;
+                out.push_str(&call)?;
                 between = "; ";
             }
             Ok(out)
@@ -23,10 +23,10 @@ pub fn read_calls(alloc: Global, bytes: &[u8]) -> Result<String, AllocError> {
     }
 }
 
-/// How many entries a journal has, or its fault.
+/// The entries of a journal, or its fault.
 pub fn read(alloc: Global, bytes: &[u8]) -> Result<String, AllocError> {
     match com_journal::read(alloc, bytes) {
-        Ok(entries) => format!(in alloc; "{} entries", entries.as_slice().len()),
+        Ok(entries) => all_of(alloc, entries.as_slice()),
         Err(error) => fault(alloc, error),
     }
 }
@@ -64,6 +64,20 @@ fn fault(alloc: Global, error: JournalError) -> Result<String, AllocError> {
         }
         JournalError::Memory(error) => Err(error),
     }
+}
+
+/// The calls of entries with their parties, and their replies.
+fn all_of(alloc: Global, entries: &[Entry]) -> Result<String, AllocError> {
+    let mut out = format!(in alloc; "{} entries:", entries.len())?;
+    let mut between = " ";
+    for entry in entries {
+        let call = of_party(alloc, &entry.party, &entry.call)?;
+        let reply = reply(alloc, &entry.reply)?;
+        let entry = format!(in alloc; "{between}{call} = {reply}")?;
+        out.push_str(&entry)?;
+        between = "; ";
+    }
+    Ok(out)
 }
 
 fn replies(alloc: Global, entries: &[Entry]) -> Result<String, AllocError> {

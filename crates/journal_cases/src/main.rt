@@ -4,6 +4,7 @@
 
 mod calls;
 mod journals;
+mod mutations;
 
 use case_lines::{Cases, Words, answer_cases, unknown_call};
 use std::alloc::{AllocError, Global};
@@ -22,6 +23,7 @@ impl Cases for JournalCases {
             b"read_calls" => journals::read_calls(self.alloc, words.bytes()),
             b"read" => journals::read(self.alloc, words.bytes()),
             b"read_entry" => journals::read_entry(self.alloc, words.bytes()),
+            b"mutations" => mutations::mutations(self.alloc, words.bytes()),
             b"write" => journals::read_and_write(self.alloc, words.bytes()),
             _ => unknown_call(self.alloc),
         }
