@@ -58,7 +58,7 @@ replay_calls before after net_file script_file verdict h =
     let net_read = h.performed.net_read in
     let done = h.performed.script_done in
     replay_told file_limit before.contents h.performed.between.contents h.read.contents after.contents net_file script_file net_read.description done.script _ net_read.is_read.contents
-    (is_short net_read.description h.net net_read.described) done.is_read.contents done.short h.contents
+    (is_short net_read.description h.net net_read.described) done.is_read.contents done.within_limit h.contents
 
 show_told : (limit : ℕ) (first read last : Option Contents) (file bytes text : List ℕ)
     → IfSome first (λ c. (held : List ℕ) × (map.get c.files file ≡ Some held) × (bytes ≡ bytes_read limit held) × (read ≡ Some (with_reading file held (length bytes) false c)))

@@ -9,7 +9,7 @@ use Rattle.mcs_top.specs.declared.show.Ending.{Ending}
 use Rattle.mcs_top.specs.declared.show.Ending.TheVariants as ending
 use Rattle.mcs_top.specs.Files.{file_limit}
 use Rattle.mcs_top.specs.Show.{EndsSo}
-use Rattle.mcs_top.specs.Showing.{IsFaultyInputTold, HasStoppedShowing}
+use Rattle.mcs_top.specs.Showing.{IsFaultyInputTold, IsShowUnwritten}
 use Rattle.mcs_top.proofs.CompleteReplay.{replay_done_told}
 use Rattle.mcs_top.proofs.Reading.{never_unread, read_is}
 use Rattle.mcs_top.specs.Outcome.{IsShowOutcome, IsOutcome, IsUnfailed, CanShow, IsComplete}
@@ -17,7 +17,7 @@ use Rattle.com_msg.specs.declared.message.RawMessage.{RawMessage}
 use Rattle.com_lines.specs.Frames.{Frames}
 use Rattle.com_lines.proofs.Unique.{frames-unique}
 
--- an input that ends with END has no other end
+-- an input that ends well has no other end
 one_end : (framing : Framing) (bytes : List ℕ) (messages others : List RawMessage) (end : Ending) → Frames framing bytes messages None → length bytes ≤ file_limit → EndsSo framing bytes others end → end ≡ ending.End
 one_end framing bytes messages others ending.End sound short h = refl
 one_end framing bytes messages others (ending.Fault fault) sound short (inl h) =
@@ -27,11 +27,11 @@ one_end framing bytes messages others ending.Long sound short h = absurd (omega 
 
 never_faulty : (framing : Framing) (file : List ℕ) (before : Shown) (Told : Shown → List ℕ → Type 0) (c : Contents) → before.contents ≡ Some c → CanShow framing file c → IsFaultyInputTold framing file before Told → ⊥
 never_faulty framing file before Told c told can h =
-    let same = read_is file_limit file h.input.bytes can.bytes before h.read c h.input.is_read told can.there can.short in
-    h.faulty (one_end framing can.bytes can.messages h.input.shows.messages h.end can.framed can.short (rw same at h.input.shows.ends))
+    let same = read_is file_limit file h.input.bytes can.bytes before h.read c h.input.is_read told can.there can.within_limit in
+    h.faulty (one_end framing can.bytes can.messages h.input.shows.messages h.end can.framed can.within_limit (rw same at h.input.shows.ends))
 
-stopped_rose : (framing : Framing) (file : List ℕ) (before after : Shown) → HasStoppedShowing framing file before after → Rose before.write_faults after.write_faults
-stopped_rose framing file before after h = rw h.input.is_read.no_fault.write_faults at h.told.rose
+unwritten_rose : (framing : Framing) (file : List ℕ) (before after : Shown) → IsShowUnwritten framing file before after → Rose before.write_faults after.write_faults
+unwritten_rose framing file before after h = rw h.input.is_read.no_fault.write_faults at h.told.rose
 
 show_done : (framing : Framing) (file : List ℕ) (status : ℕ) (before after : Shown) (c : Contents) → before.contents ≡ Some c → CanShow framing file c → IsUnfailed before after → IsShowOutcome framing file status before after
     → (status ≡ 0) ⊎ (status ≡ 1)
@@ -40,7 +40,7 @@ show_done framing file status before after c told can unfailed outcome = by_stat
   by_status (inl is) = inl is
   by_status (inr (inl is)) = inr is
   by_status (inr (inr (inl is))) = let h = outcome.unread is in absurd (never_unread file _ before h.0 after h.1 h.2 unfailed)
-  by_status (inr (inr (inr (inl is)))) = absurd (unfailed.written (stopped_rose framing file before after (outcome.stopped is)))
+  by_status (inr (inr (inr (inl is)))) = absurd (unfailed.written (unwritten_rose framing file before after (outcome.unwritten is)))
   by_status (inr (inr (inr (inr is)))) = absurd (never_faulty framing file before _ c told can (outcome.faulty is))
 
 -- with the contents that the store told

@@ -43,8 +43,8 @@ never_bad_script net_file script_file before tried line reason c told can h =
     let read = rw told at h.net_read.is_read.contents in
     let same_net = net_is net_file script_file h.net_read.description before h.between c told can h.net_read.is_read in
     let net : h.net ≡ can.net = same_Some h.net can.net (sym (rw same_net at h.net_read.described) ∙ can.described) in
-    let script = read_is file_limit script_file h.script can.script h.between tried _ h.is_read read.3 can.script_there can.short in
-    never_refused can.calls can.script can.net line reason can.short can.are_calls can.allowed (rw (script, net) at h.refused)
+    let script = read_is file_limit script_file h.script can.script h.between tried _ h.is_read read.3 can.script_there can.within_limit in
+    never_refused can.calls can.script can.net line reason can.within_limit can.are_calls can.allowed (rw (script, net) at h.refused)
 
 replay_done : (net_file script_file : List ℕ) (status : ℕ) (before after : Shown) (c : Contents) → before.contents ≡ Some c → CanReplay net_file script_file c → IsUnfailed before after
     → IsReplayOutcome net_file script_file status before after → (status ≡ 0) ⊎ ((status ≡ 6) ⊎ (status ≡ 1))
@@ -55,7 +55,7 @@ replay_done net_file script_file status before after c told can unfailed outcome
   by_status (inr (inr (inl is))) = let h = outcome.description is in absurd (never_bad_net net_file script_file before h.0 h.1 h.2 c told can h.3)
   by_status (inr (inr (inr (inl is)))) = let h = outcome.unread is in absurd (never_unread_file net_file script_file h.1 _ before h.0 after unfailed h.2 h.3)
   by_status (inr (inr (inr (inr (inl is))))) = inr (inl is)
-  by_status (inr (inr (inr (inr (inr (inl is)))))) = absurd (unfailed.written (outcome.stopped is).rose)
+  by_status (inr (inr (inr (inr (inr (inl is)))))) = absurd (unfailed.written (outcome.unwritten is).rose)
   by_status (inr (inr (inr (inr (inr (inr is)))))) = let h = outcome.script is in absurd (never_bad_script net_file script_file before h.0 h.1 h.2 c told can h.3)
 
 -- with the contents that the store told

@@ -21,11 +21,11 @@ use Rattle.com_state.proofs.Telling.{told_by_entries}
 use Rattle.com_state.proofs.Whole.{every_history}
 use Rattle.mcs_top.specs.declared.run.Run.{Run}
 use Rattle.mcs_top.specs.declared.script.Reason.TheVariants as reason
-use Rattle.mcs_top.specs.declared.script.ScriptFault.{ScriptFault}
-use Rattle.mcs_top.specs.declared.script.ScriptFault.TheVariants.{Refused, Memory}
+use Rattle.mcs_top.specs.declared.script.ScriptFailure.{ScriptFailure}
+use Rattle.mcs_top.specs.declared.script.ScriptFailure.TheVariants.{Refused, Memory}
 use Rattle.mcs_top.specs.Files.{file_limit}
 use Rattle.mcs_top.specs.Outputs.{summary, unit_lines, terminal_lines, transcripts, outputs}
-use Rattle.mcs_top.specs.Running.{IsReached, IsOfRun, HasDoneLines, IsRunOf, IsDoneBy, IsStopped, TellsRefusedLine, transcripts_in, summary_of, writes_of}
+use Rattle.mcs_top.specs.Running.{IsReached, IsOfRun, HasDoneLines, IsRunOf, IsDoneBy, AreRefused, TellsRefusedLine, transcripts_in, summary_of, writes_of}
 use Rattle.mcs_top.proofs.LastEntries.{ends_of, stopped_by_ends, ended_by_ends}
 
 transcripts_same : (net : Net) (history : List Entry) (S : State) (n : ℕ) (terminals : List Terminal) → state_after net history ≡ Some S → transcripts_in S n terminals ≡ transcripts net history n terminals
@@ -74,14 +74,14 @@ as_many S is h = (consistent S.net h.history S is h.calls h.done).outputs.many �
 -- where each line behind the header was done, the script was
 pub run_of : (net : Net) (script rest : List ℕ) (run : Run) → length script ≤ file_limit → lines_of script ≡ script_header ∷ lines_of rest → HasDoneLines net (lines_of rest) run → IsRunOf net script run
 run_of net script rest run short header h = record {
-  short = short;
+  within_limit = short;
   history = h.history;
   calls = (lines_of rest, header, h.calls);
   of_run = h.of_run;
 }
 
 -- where a line behind the header is refused, the script is
-pub refused_behind : (net : Net) (script rest : List ℕ) (fault : ScriptFault) → length script ≤ file_limit → lines_of script ≡ script_header ∷ lines_of rest → IsStopped net (lines_of rest) fault
+pub refused_behind : (net : Net) (script rest : List ℕ) (fault : ScriptFailure) → length script ≤ file_limit → lines_of script ≡ script_header ∷ lines_of rest → AreRefused net (lines_of rest) fault
     → TellsRefusedLine net script fault
 refused_behind net script rest (Refused line reason.Size) short header h = absurd h
 refused_behind net script rest (Refused line reason.Text) short header h = (short, inr (lines_of rest, header, h))
@@ -98,7 +98,7 @@ done_by script_file script net before read run is_read h =
       script_done = record {
         script = script;
         is_read = is_read;
-        short = h.short;
+        within_limit = h.within_limit;
         calls = h.calls;
         legal = legal;
         ran = shown_of_legal net h.history legal;

@@ -12,10 +12,10 @@ use Rattle.com_journal.specs.Lines.{IsCallText}
 use Rattle.com_journal.specs.Scripts.{lines_of}
 use Rattle.com_state.specs.State.{State}
 use Rattle.mcs_top.specs.declared.run.Run.{Run}
-use Rattle.mcs_top.specs.declared.script.LineFault.{LineFault}
-use Rattle.mcs_top.specs.declared.script.LineFault.TheVariants.{Text, NotAllowed, Memory}
+use Rattle.mcs_top.specs.declared.script.LineFailure.{LineFailure}
+use Rattle.mcs_top.specs.declared.script.LineFailure.TheVariants.{Text, NotAllowed, Memory}
 use Rattle.mcs_top.specs.Refusal.{IsNoCall, IsNotAllowed}
-use Rattle.mcs_top.specs.Running.{Adds, IsLineRefused, HasDone, IsStopped, fault_at}
+use Rattle.mcs_top.specs.Running.{Adds, IsLineRefused, HasDone, AreRefused, failure_at}
 use Rattle.mcs_top.proofs.Kept.{done_until}
 
 -- an answer that hands an error on is not Ok
@@ -24,7 +24,7 @@ not_done Q P (Ok x) h = absurd h
 not_done Q P (Err e) h = tt
 
 -- and want of memory refuses no line
-pub memory_alone : (S : State) (line : List ℕ) (r : Result (Unit {0}) LineFault) → IsErrAnd r (λ fault. fault ≡ Memory) → IfErr r (IsLineRefused S line)
+pub memory_alone : (S : State) (line : List ℕ) (r : Result (Unit {0}) LineFailure) → IsErrAnd r (λ fault. fault ≡ Memory) → IfErr r (IsLineRefused S line)
 memory_alone S line (Ok x) h = tt
 memory_alone S line (Err e) h = rw h tt
 
@@ -51,8 +51,8 @@ added_same entry run other longer journal ends arrivals portions a = record {
 }
 
 -- where a line is refused, the lines stop there
-pub stopped_by : (net : Net) (lines : List (List ℕ)) (rest after line : List ℕ) (run : Run) (number : ℕ) (fault : LineFault) → HasDone net lines rest run number → lines_of rest ≡ line ∷ lines_of after
-    → IsLineRefused run.state line fault → IsStopped net lines (fault_at (number + 1) fault)
+pub stopped_by : (net : Net) (lines : List (List ℕ)) (rest after line : List ℕ) (run : Run) (number : ℕ) (fault : LineFailure) → HasDone net lines rest run number → lines_of rest ≡ line ∷ lines_of after
+    → IsLineRefused run.state line fault → AreRefused net lines (failure_at (number + 1) fault)
 stopped_by net lines rest after line run number Text h first is = done_until net lines rest after line run number IsNoCall h first is
 stopped_by net lines rest after line run number NotAllowed h first is = done_until net lines rest after line run number IsNotAllowed h first is
 stopped_by net lines rest after line run number Memory h first is = tt

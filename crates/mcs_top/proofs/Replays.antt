@@ -8,19 +8,19 @@ use Rattle.com_io.specs.Stores.{Shown}
 use Rattle.com_net.specs.declared.net.Net.{Net}
 use Rattle.com_events.specs.declared.entry.Entry.{Entry}
 use Rattle.mcs_top.specs.declared.run.Run.{Run}
-use Rattle.mcs_top.specs.declared.replay.Verdict.{Verdict}
+use Rattle.mcs_top.specs.declared.ends.Verdict.{Verdict}
 use Rattle.mcs_top.specs.declared.report.Refusal.TheVariants.{Usage, Description, Unread, Script, Input}
-use Rattle.mcs_top.specs.declared.report.Fault.{Fault}
-use Rattle.mcs_top.specs.declared.report.Fault.TheVariants.{Refused, Write, Memory}
+use Rattle.mcs_top.specs.declared.report.Failure.{Failure}
+use Rattle.mcs_top.specs.declared.report.Failure.TheVariants.{Refused, Write, Memory}
 use Rattle.mcs_top.specs.Histories.{verdict_of}
-use Rattle.mcs_top.specs.Replay.{IsNetRead, IsScriptDone, IsPerformed, HasReplayed, IsCutShort, HasStopped, HasRunShort}
-use Rattle.mcs_top.specs.Failing.{IsNetFault, IsScriptFault, HasFailed, IsWrittenRun, IsUnwrittenRun, IsReplayedOn, IsNotReplayedOn, IsCutOn}
+use Rattle.mcs_top.specs.Replay.{IsNetRead, IsScriptDone, IsPerformed, HasReplayed, StopsInOutputs, IsReplayUnwritten, LacksMemoryToWrite}
+use Rattle.mcs_top.specs.Failing.{IsNetFailure, IsScriptFailure, HasNotReplayed, IsWrittenRun, IsUnwrittenRun, IsReplayedOn, IsNotReplayedOn, IsCutOn}
 use Rattle.mcs_top.specs.Running.{IsDoneBy, IsReached, writes_of, AreWritten, IsCutIn}
 use Rattle.mcs_top.proofs.Outs.{no_fault_then}
 use Rattle.mcs_top.proofs.LastEntries.{judged_by_ends}
 use Rattle.mcs_top.proofs.Performance.{writes_same, reached}
 
-pub net_fails : (net_file script_file : List ℕ) (before after : Shown) (fault : Fault) → IsNetFault net_file before after fault → HasFailed net_file script_file before after fault
+pub net_fails : (net_file script_file : List ℕ) (before after : Shown) (failure : Failure) → IsNetFailure net_file before after failure → HasNotReplayed net_file script_file before after failure
 net_fails net_file script_file before after (Refused (Unread told)) h = inl (h.0, h.1)
 net_fails net_file script_file before after (Refused (Description fault)) h = h
 net_fails net_file script_file before after (Refused Usage) h = absurd h
@@ -29,8 +29,8 @@ net_fails net_file script_file before after (Refused (Input text)) h = absurd h
 net_fails net_file script_file before after Memory h = inl (inl h)
 net_fails net_file script_file before after Write h = absurd h
 
-pub script_fails : (net_file script_file : List ℕ) (net : Net) (before mid after : Shown) (fault : Fault) → IsNetRead net_file before mid net
-    → IsScriptFault script_file net mid after fault → HasFailed net_file script_file before after fault
+pub script_fails : (net_file script_file : List ℕ) (net : Net) (before mid after : Shown) (failure : Failure) → IsNetRead net_file before mid net
+    → IsScriptFailure script_file net mid after failure → HasNotReplayed net_file script_file before after failure
 script_fails net_file script_file net before mid after (Refused (Unread told)) read h =
     inr (h.0, record { between = mid; net = net; net_read = read; unread = h.1 })
 script_fails net_file script_file net before mid after (Refused (Script line reason)) read h =
@@ -61,9 +61,9 @@ all_done net_file script_file net run before mid read after verdict net_read h w
   judged = judged ∙ (ap verdict_of h.of_run.kept.ends ∙ judged_by_ends h.history);
 }
 
-cut_short : (fault : StoreFault) (net_file script_file : List ℕ) (net : Net) (run : Run) (before mid read after : Shown) → IsNetRead net_file before mid net
-    → IsDoneBy script_file net mid read run → IsCutIn (writes_of run) read after fault → IsCutShort fault before after net_file script_file
-cut_short fault net_file script_file net run before mid read after net_read h cut = record {
+stops : (fault : StoreFault) (net_file script_file : List ℕ) (net : Net) (run : Run) (before mid read after : Shown) → IsNetRead net_file before mid net
+    → IsDoneBy script_file net mid read run → IsCutIn (writes_of run) read after fault → StopsInOutputs fault before after net_file script_file
+stops fault net_file script_file net run before mid read after net_read h cut = record {
   net = net;
   history = h.history;
   journal = run.journal;
@@ -73,12 +73,12 @@ cut_short fault net_file script_file net run before mid read after net_read h cu
 }
 
 -- a write of the outputs failed
-pub has_stopped : (net_file script_file : List ℕ) (net : Net) (run : Run) (before mid read after : Shown) → IsNetRead net_file before mid net
-    → IsDoneBy script_file net mid read run → IsCutIn (writes_of run) read after store.Failed → HasStopped before after net_file script_file
-has_stopped net_file script_file net run before mid read after net_read h cut =
+pub replay_unwritten : (net_file script_file : List ℕ) (net : Net) (run : Run) (before mid read after : Shown) → IsNetRead net_file before mid net
+    → IsDoneBy script_file net mid read run → IsCutIn (writes_of run) read after store.Failed → IsReplayUnwritten before after net_file script_file
+replay_unwritten net_file script_file net run before mid read after net_read h cut =
     let same = both_read before mid read net_file script_file net h.history net_read h.script_done in
     record {
-      cut_short = cut_short store.Failed net_file script_file net run before mid read after net_read h cut;
+      stops = stops store.Failed net_file script_file net run before mid read after net_read h cut;
       rose = rw same.write_faults at cut.write_faults;
       open_faults = cut.open_faults ∙ same.open_faults;
       read_faults = cut.read_faults ∙ same.read_faults;
@@ -86,11 +86,11 @@ has_stopped net_file script_file net run before mid read after net_read h cut =
 
 -- or wanted memory
 pub has_run_short : (net_file script_file : List ℕ) (net : Net) (run : Run) (before mid read after : Shown) → IsNetRead net_file before mid net
-    → IsDoneBy script_file net mid read run → IsCutIn (writes_of run) read after store.Memory → HasRunShort before after net_file script_file
+    → IsDoneBy script_file net mid read run → IsCutIn (writes_of run) read after store.Memory → LacksMemoryToWrite before after net_file script_file
 has_run_short net_file script_file net run before mid read after net_read h cut =
     let same = both_read before mid read net_file script_file net h.history net_read h.script_done in
     record {
-      cut_short = cut_short store.Memory net_file script_file net run before mid read after net_read h cut;
+      stops = stops store.Memory net_file script_file net run before mid read after net_read h cut;
       no_fault = record {
         pending = cut.pending ∙ same.pending;
         open_faults = cut.open_faults ∙ same.open_faults;
@@ -104,14 +104,14 @@ pub replayed_on : (net_file script_file : List ℕ) (net : Net) (before mid afte
     → HasReplayed before after net_file script_file verdict
 replayed_on net_file script_file net before mid after verdict net_read h = all_done net_file script_file net h.run before mid h.read after verdict net_read h.done h.written.written h.written.judged
 
-cut_on : (net_file script_file : List ℕ) (net : Net) (before mid after : Shown) (fault : Fault) → IsNetRead net_file before mid net → IsCutOn script_file net mid after fault → HasFailed net_file script_file before after fault
+cut_on : (net_file script_file : List ℕ) (net : Net) (before mid after : Shown) (failure : Failure) → IsNetRead net_file before mid net → IsCutOn script_file net mid after failure → HasNotReplayed net_file script_file before after failure
 cut_on net_file script_file net before mid after (Refused refusal) net_read h = absurd h.cut
-cut_on net_file script_file net before mid after Write net_read h = has_stopped net_file script_file net h.run before mid h.read after net_read h.done h.cut
+cut_on net_file script_file net before mid after Write net_read h = replay_unwritten net_file script_file net h.run before mid h.read after net_read h.done h.cut
 cut_on net_file script_file net before mid after Memory net_read h = inr (has_run_short net_file script_file net h.run before mid h.read after net_read h.done h.cut)
 
 -- or not
-pub fails_on : (net_file script_file : List ℕ) (net : Net) (before mid after : Shown) (fault : Fault) → IsNetRead net_file before mid net → IsNotReplayedOn script_file net mid after fault
-    → HasFailed net_file script_file before after fault
+pub fails_on : (net_file script_file : List ℕ) (net : Net) (before mid after : Shown) (failure : Failure) → IsNetRead net_file before mid net → IsNotReplayedOn script_file net mid after failure
+    → HasNotReplayed net_file script_file before after failure
 fails_on net_file script_file net before mid after fault net_read (inl h) = script_fails net_file script_file net before mid after fault net_read h
 fails_on net_file script_file net before mid after fault net_read (inr h) = cut_on net_file script_file net before mid after fault net_read h
 
@@ -132,6 +132,6 @@ pub done_on : (script_file : List ℕ) (net : Net) (before read after : Shown) (
     → IsReplayedOn script_file net before after verdict
 done_on script_file net before read after run verdict h written = record { run = run; read = read; done = h; written = written }
 
-pub undone_on : (script_file : List ℕ) (net : Net) (before read after : Shown) (run : Run) (fault : Fault) → IsDoneBy script_file net before read run → IsUnwrittenRun run read after fault
-    → IsNotReplayedOn script_file net before after fault
+pub undone_on : (script_file : List ℕ) (net : Net) (before read after : Shown) (run : Run) (failure : Failure) → IsDoneBy script_file net before read run → IsUnwrittenRun run read after failure
+    → IsNotReplayedOn script_file net before after failure
 undone_on script_file net before read after run fault h cut = inr (record { run = run; read = read; done = h; cut = cut })

@@ -2,7 +2,7 @@
 use Rattle.std.specs.Prelude.{◌≡◌, ℕ, true, false, List, [], ◌∷◌, ◌++◌, IfSome, IsSomeAnd}
 use Rattle.com_io.specs.Stores.{Opening, Closing, Writing, Contents, Shown, output_name}
 use Rattle.com_msg.specs.declared.framing.Framing.{Framing}
-use Rattle.mcs_top.specs.declared.replay.Verdict.{Verdict}
+use Rattle.mcs_top.specs.declared.ends.Verdict.{Verdict}
 use Rattle.mcs_top.specs.Outputs.{outputs}
 use Rattle.mcs_top.specs.Replay.{HasReplayed}
 use Rattle.mcs_top.specs.Showing.{HasShown}

@@ -2,13 +2,14 @@
 use Rattle.std.specs.Prelude.{◌≡◌, ℕ, ◌⊎◌, List}
 use Rattle.com_io.specs.Files.{IsUnopened, IsUnreadable, IsAbandoned}
 use Rattle.com_io.specs.Stores.{Shown}
+use Rattle.mcs_top.specs.declared.files.TheConstants.{FILE_LIMIT}
 use Rattle.mcs_top.specs.declared.report.Refusal.TheVariants.{Usage, Description, Unread, Script, Input}
-use Rattle.mcs_top.specs.declared.report.Fault.{Fault}
-use Rattle.mcs_top.specs.declared.report.Fault.TheVariants.{Refused, Write, Memory}
+use Rattle.mcs_top.specs.declared.report.Failure.{Failure}
+use Rattle.mcs_top.specs.declared.report.Failure.TheVariants.{Refused, Write, Memory}
 
 -- a description, a script or an input that is shown has at most this many bytes
 abbrev pub file_limit : ℕ
-file_limit = 1048576
+file_limit = FILE_LIMIT
 
 -- The file of this name was asked for and not opened, or a read of it failed. Nothing else was asked
 -- for.
@@ -17,7 +18,7 @@ IsNotRead name before after =
     IsUnopened name before after ⊎ IsUnreadable file_limit name before after
 
 -- why the file of this name was not read
-abbrev pub IsNotReadFor : List ℕ → Shown → Shown → Fault → Type 0
+abbrev pub IsNotReadFor : List ℕ → Shown → Shown → Failure → Type 0
 IsNotReadFor name before after (Refused (Unread told)) = (told.now ≡ name) × IsNotRead name before after
 IsNotReadFor name before after Memory = IsAbandoned file_limit name before after
 IsNotReadFor name before after (Refused Usage) = ⊥

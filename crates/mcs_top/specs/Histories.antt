@@ -13,8 +13,8 @@ use Rattle.com_events.specs.declared.call.Call.TheVariants.{Arrive, Stop, Finish
 use Rattle.com_events.specs.declared.reply.Reply.{Reply}
 use Rattle.com_events.specs.declared.reply.Reply.TheVariants.{Given}
 use Rattle.com_events.specs.declared.entry.Entry.{Entry}
-use Rattle.mcs_top.specs.declared.replay.Verdict.{Verdict}
-use Rattle.mcs_top.specs.declared.replay.Verdict.TheVariants.{Sound, Faulty}
+use Rattle.mcs_top.specs.declared.ends.Verdict.{Verdict}
+use Rattle.mcs_top.specs.declared.ends.Verdict.TheVariants.{Sound, Faulty}
 
 -- ARRIVE
 abbrev pub is_arrival : Call → Bool

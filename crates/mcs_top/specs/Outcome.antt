@@ -15,12 +15,12 @@ use Rattle.com_events.specs.declared.call.Call.{Call}
 use Rattle.com_journal.specs.Scripts.{IsScript}
 use Rattle.com_state.specs.Histories.{run}
 use Rattle.mcs_top.specs.declared.script.Reason.{Reason}
-use Rattle.mcs_top.specs.declared.replay.Verdict.TheVariants.{Sound, Faulty}
+use Rattle.mcs_top.specs.declared.ends.Verdict.TheVariants.{Sound, Faulty}
 use Rattle.mcs_top.specs.Files.{file_limit, IsNotRead}
 use Rattle.mcs_top.specs.Words.{IsReplay, IsShow, IsNoCommand}
 use Rattle.mcs_top.specs.Reports.{IsReported, IsCutReport, usage_report, description_report, unreadable_report, script_report}
-use Rattle.mcs_top.specs.Replay.{HasReplayed, HasStopped, HasRunShort, HasGivenUp, IsDescriptionRefused, IsFileUnread, IsScriptRefused}
-use Rattle.mcs_top.specs.Showing.{HasShown, HasStoppedShowing, HasRunShortShowing, IsFaultyInputTold}
+use Rattle.mcs_top.specs.Replay.{HasReplayed, IsReplayUnwritten, LacksMemoryToWrite, LacksMemoryToReplay, IsDescriptionRefused, IsFileUnread, IsScriptRefused}
+use Rattle.mcs_top.specs.Showing.{HasShown, IsShowUnwritten, LacksMemoryToShow, IsFaultyInputTold}
 
 -- The words are no command, and the usage line was written.
 pub record IsUsageOutcome (status : ℕ) (before after : Shown) : Type 0 where
@@ -52,8 +52,8 @@ IsScriptTold net_file script_file before Told =
 -- written.
 abbrev pub IsReplayWithoutMemory : List ℕ → List ℕ → Shown → Shown → Type 0
 IsReplayWithoutMemory net_file script_file before after =
-    HasGivenUp before after net_file script_file
-    ⊎ (HasRunShort before after net_file script_file
+    LacksMemoryToReplay before after net_file script_file
+    ⊎ (LacksMemoryToWrite before after net_file script_file
     ⊎ (IsDescriptionTold net_file before (IsCutReport after)
     ⊎ (IsUnreadTold net_file script_file before (IsCutReport after)
     ⊎ IsScriptTold net_file script_file before (IsCutReport after))))
@@ -66,7 +66,7 @@ pub record IsReplayOutcome (net_file script_file : List ℕ) (status : ℕ)
   pub description : status ≡ 3 → IsDescriptionTold net_file before (IsReported after)
   pub unread : status ≡ 5 → IsUnreadTold net_file script_file before (IsReported after)
   pub faulty : status ≡ 6 → HasReplayed before after net_file script_file Faulty
-  pub stopped : status ≡ 7 → HasStopped before after net_file script_file
+  pub unwritten : status ≡ 7 → IsReplayUnwritten before after net_file script_file
   pub script : status ≡ 8 → IsScriptTold net_file script_file before (IsReported after)
   pub statuses : (status ≡ 0) ⊎ ((status ≡ 1) ⊎ ((status ≡ 3) ⊎ ((status ≡ 5)
       ⊎ ((status ≡ 6) ⊎ ((status ≡ 7) ⊎ (status ≡ 8))))))
@@ -79,7 +79,7 @@ IsInputUnread file before Told =
 -- Memory ran out.
 abbrev pub IsShowWithoutMemory : Framing → List ℕ → Shown → Shown → Type 0
 IsShowWithoutMemory framing file before after =
-    HasRunShortShowing framing file before after
+    LacksMemoryToShow framing file before after
     ⊎ (IsInputUnread file before (IsCutReport after)
     ⊎ IsFaultyInputTold framing file before (IsCutReport after))
 
@@ -89,7 +89,7 @@ pub record IsShowOutcome (framing : Framing) (file : List ℕ) (status : ℕ)
   pub shown : status ≡ 0 → HasShown framing file before after
   pub memory : status ≡ 1 → IsShowWithoutMemory framing file before after
   pub unread : status ≡ 5 → IsInputUnread file before (IsReported after)
-  pub stopped : status ≡ 7 → HasStoppedShowing framing file before after
+  pub unwritten : status ≡ 7 → IsShowUnwritten framing file before after
   pub faulty : status ≡ 9 → IsFaultyInputTold framing file before (IsReported after)
   pub statuses : (status ≡ 0) ⊎ ((status ≡ 1) ⊎ ((status ≡ 5) ⊎ ((status ≡ 7) ⊎ (status ≡ 9))))
 
@@ -117,7 +117,7 @@ pub record CanReplay (net_file script_file : List ℕ) (c : Contents) : Type 0 w
   pub described : net_of description ≡ Some net
   pub script : List ℕ
   pub script_there : map.get c.files script_file ≡ Some script
-  pub short : length script ≤ file_limit
+  pub within_limit : length script ≤ file_limit
   pub calls : List (Party × Call)
   pub are_calls : IsScript calls script
   pub allowed : IsSome (run net calls)
@@ -126,7 +126,7 @@ pub record CanReplay (net_file script_file : List ℕ) (c : Contents) : Type 0 w
 pub record CanShow (framing : Framing) (file : List ℕ) (c : Contents) : Type 0 where
   pub bytes : List ℕ
   pub there : map.get c.files file ≡ Some bytes
-  pub short : length bytes ≤ file_limit
+  pub within_limit : length bytes ≤ file_limit
   pub messages : List RawMessage
   pub framed : Frames framing bytes messages None
 

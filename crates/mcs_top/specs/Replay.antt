@@ -13,7 +13,7 @@ use Rattle.com_journal.specs.Journals.{IsJournal}
 use Rattle.com_journal.specs.Scripts.{IsScript}
 use Rattle.com_state.specs.Histories.{Legal, IsRun, call_made}
 use Rattle.com_state.specs.Wholeness.{Whole, InOrder}
-use Rattle.mcs_top.specs.declared.replay.Verdict.{Verdict}
+use Rattle.mcs_top.specs.declared.ends.Verdict.{Verdict}
 use Rattle.mcs_top.specs.declared.script.Reason.{Reason}
 use Rattle.mcs_top.specs.Files.{file_limit, IsNotRead}
 use Rattle.mcs_top.specs.Histories.{verdict_of}
@@ -32,7 +32,7 @@ pub record IsScriptDone (script_file : List ℕ) (net : Net) (before read : Show
     (history : List Entry) : Type 0 where
   pub script : List ℕ
   pub is_read : IsRead file_limit script_file script before read
-  pub short : length script ≤ file_limit
+  pub within_limit : length script ≤ file_limit
   pub calls : IsScript (map call_made history) script
   pub legal : Legal net history
   pub ran : IsRun net history
@@ -65,7 +65,7 @@ pub record HasReplayed (before after : Shown) (net_file script_file : List ℕ)
 
 -- The history is as where all is written, and the writes are those, up to one that was not done: the
 -- last that was asked for.
-pub record IsCutShort (fault : StoreFault) (before after : Shown)
+pub record StopsInOutputs (fault : StoreFault) (before after : Shown)
     (net_file script_file : List ℕ) : Type 0 where
   pub net : Net
   pub history : List Entry
@@ -75,15 +75,15 @@ pub record IsCutShort (fault : StoreFault) (before after : Shown)
   pub contents : StopsAtWrite fault (outputs net history journal) read.contents after.contents
 
 -- A write failed, and the store counts that alone.
-pub record HasStopped (before after : Shown) (net_file script_file : List ℕ) : Type 0 where
-  pub cut_short : IsCutShort Failed before after net_file script_file
+pub record IsReplayUnwritten (before after : Shown) (net_file script_file : List ℕ) : Type 0 where
+  pub stops : StopsInOutputs Failed before after net_file script_file
   pub rose : Rose before.write_faults after.write_faults
   pub open_faults : after.open_faults ≡ before.open_faults
   pub read_faults : after.read_faults ≡ before.read_faults
 
 -- A write wanted memory, and no fault was counted.
-pub record HasRunShort (before after : Shown) (net_file script_file : List ℕ) : Type 0 where
-  pub cut_short : IsCutShort Memory before after net_file script_file
+pub record LacksMemoryToWrite (before after : Shown) (net_file script_file : List ℕ) : Type 0 where
+  pub stops : StopsInOutputs Memory before after net_file script_file
   pub no_fault : HasNoFault before after
 
 -- SCRIPT was at most begun, behind NET, which was read and describes a network.
@@ -94,8 +94,8 @@ pub record IsScriptAbandoned (before after : Shown) (net_file script_file : List
   pub abandoned : IsAbandoned file_limit script_file between after
 
 -- No more than the two files was asked for, in their order, and no fault was counted.
-abbrev pub HasGivenUp : Shown → Shown → List ℕ → List ℕ → Type 0
-HasGivenUp before after net_file script_file =
+abbrev pub LacksMemoryToReplay : Shown → Shown → List ℕ → List ℕ → Type 0
+LacksMemoryToReplay before after net_file script_file =
     IsAbandoned file_limit net_file before after
     ⊎ IsScriptAbandoned before after net_file script_file
 

@@ -1,4 +1,5 @@
--- What a refusal writes, and what became of the write.
+-- What a refusal writes, and what became of the write. What the store shows after the write comes first, so that
+-- a definition can be handed `IsReported after` as what became of a report.
 use Rattle.std.specs.Prelude.{◌≡◌, ℕ, ◌⊎◌, List, ◌++◌, option_map, codes, decimal}
 use Rattle.com_io.specs.declared.store.StoreFault.TheVariants as cause
 use Rattle.com_io.specs.Faults.{Rose}
@@ -11,8 +12,8 @@ use Rattle.mcs_top.specs.declared.script.Reason.{Reason}
 use Rattle.mcs_top.specs.declared.script.Reason.TheVariants.{Size, Text, NotAllowed}
 use Rattle.mcs_top.specs.declared.report.Refusal.{Refusal}
 use Rattle.mcs_top.specs.declared.report.Refusal.TheVariants.{Usage, Description, Unread, Script, Input}
-use Rattle.mcs_top.specs.declared.report.Fault.{Fault}
-use Rattle.mcs_top.specs.declared.report.Fault.TheVariants.{Refused, Write, Memory}
+use Rattle.mcs_top.specs.declared.report.Failure.{Failure}
+use Rattle.mcs_top.specs.declared.report.Failure.TheVariants.{Refused, Write, Memory}
 
 -- The text was written to standard output, in one write. Nothing else was asked for, and no fault was
 -- counted.
@@ -97,8 +98,8 @@ IsRefusedWith refusal status tried after =
     ((status ≡ status_of refusal) × IsReported after tried (report_of refusal))
     ⊎ ((status ≡ 1) × IsCutReport after tried (report_of refusal))
 
--- what the answer to a fault is, and what became of its report
-abbrev pub IsAnswerTo : Fault → ℕ → Shown → Shown → Type 0
+-- what the answer to a failure is, and what became of its report
+abbrev pub IsAnswerTo : Failure → ℕ → Shown → Shown → Type 0
 IsAnswerTo (Refused refusal) status tried after = IsRefusedWith refusal status tried after
 IsAnswerTo Write status tried after = (status ≡ 7) × (after ≡ tried)
 IsAnswerTo Memory status tried after = (status ≡ 1) × (after ≡ tried)

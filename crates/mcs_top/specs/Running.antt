@@ -22,11 +22,11 @@ use Rattle.com_state.specs.Steps.{step}
 use Rattle.com_state.specs.Histories.{LeadsTo, call_made}
 use Rattle.com_state.specs.Transcripts.{sent_in, sent_to}
 use Rattle.mcs_top.specs.declared.run.Run.{Run}
-use Rattle.mcs_top.specs.declared.script.LineFault.{LineFault}
-use Rattle.mcs_top.specs.declared.script.LineFault.TheVariants as line_fault
+use Rattle.mcs_top.specs.declared.script.LineFailure.{LineFailure}
+use Rattle.mcs_top.specs.declared.script.LineFailure.TheVariants as line_fault
 use Rattle.mcs_top.specs.declared.script.Reason.TheVariants as reason
-use Rattle.mcs_top.specs.declared.script.ScriptFault.{ScriptFault}
-use Rattle.mcs_top.specs.declared.script.ScriptFault.TheVariants.{Refused, Memory}
+use Rattle.mcs_top.specs.declared.script.ScriptFailure.{ScriptFailure}
+use Rattle.mcs_top.specs.declared.script.ScriptFailure.TheVariants.{Refused, Memory}
 use Rattle.mcs_top.specs.Files.{file_limit}
 use Rattle.mcs_top.specs.Histories.{is_arrival, is_portion, arrivals, portions}
 use Rattle.mcs_top.specs.Outputs.{unit_lines, terminal_lines, count_lines, journal_name, transcript_name, writing, contents_after, StopsAtWrite}
@@ -105,7 +105,7 @@ pub record HasDone (net : Net) (lines : List (List ℕ)) (rest : List ℕ) (run 
 
 -- the script is within the limit, and the history of its calls is that of the run
 pub record IsRunOf (net : Net) (script : List ℕ) (run : Run) : Type 0 where
-  pub short : length script ≤ file_limit
+  pub within_limit : length script ≤ file_limit
   pub history : List Entry
   pub calls : IsScript (map call_made history) script
   pub of_run : IsOfRun net history run
@@ -116,25 +116,25 @@ pub record IsDoneBy (script_file : List ℕ) (net : Net) (before read : Shown) (
   pub script_done : IsScriptDone script_file net before read history
   pub of_run : IsOfRun net history run
 
-abbrev pub fault_at : ℕ → LineFault → ScriptFault
-fault_at line line_fault.Text = Refused line reason.Text
-fault_at line line_fault.NotAllowed = Refused line reason.NotAllowed
-fault_at line line_fault.Memory = Memory
+abbrev pub failure_at : ℕ → LineFailure → ScriptFailure
+failure_at line line_fault.Text = Refused line reason.Text
+failure_at line line_fault.NotAllowed = Refused line reason.NotAllowed
+failure_at line line_fault.Memory = Memory
 
-abbrev pub IsLineRefused : State → List ℕ → LineFault → Type 0
+abbrev pub IsLineRefused : State → List ℕ → LineFailure → Type 0
 IsLineRefused S line line_fault.Text = IsNoCall S line
 IsLineRefused S line line_fault.NotAllowed = IsNotAllowed S line
 IsLineRefused S line line_fault.Memory = Unit {0}
 
--- the lines stop at one that is refused
-abbrev pub IsStopped : Net → List (List ℕ) → ScriptFault → Type 0
-IsStopped net lines (Refused line reason.Size) = ⊥
-IsStopped net lines (Refused line reason.Text) = StopsAt net lines line IsNoCall
-IsStopped net lines (Refused line reason.NotAllowed) = StopsAt net lines line IsNotAllowed
-IsStopped net lines Memory = Unit {0}
+-- a line is refused where those before it were done
+abbrev pub AreRefused : Net → List (List ℕ) → ScriptFailure → Type 0
+AreRefused net lines (Refused line reason.Size) = ⊥
+AreRefused net lines (Refused line reason.Text) = StopsAt net lines line IsNoCall
+AreRefused net lines (Refused line reason.NotAllowed) = StopsAt net lines line IsNotAllowed
+AreRefused net lines Memory = Unit {0}
 
--- a script fault tells a line only where the line is refused
-abbrev pub TellsRefusedLine : Net → List ℕ → ScriptFault → Type 0
+-- a failure tells a line only where the line is refused
+abbrev pub TellsRefusedLine : Net → List ℕ → ScriptFailure → Type 0
 TellsRefusedLine net script (Refused line reason) = IsRefused net script line reason
 TellsRefusedLine net script Memory = Unit {0}
 

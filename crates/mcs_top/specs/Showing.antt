@@ -4,8 +4,8 @@ use Rattle.com_msg.specs.declared.framing.Framing.{Framing}
 use Rattle.com_io.specs.Files.{IsRead, IsAbandoned}
 use Rattle.com_io.specs.Stores.{Shown}
 use Rattle.mcs_top.specs.declared.report.Refusal.TheVariants.{Usage, Description, Unread, Script, Input}
-use Rattle.mcs_top.specs.declared.report.Fault.{Fault}
-use Rattle.mcs_top.specs.declared.report.Fault.TheVariants.{Refused, Write, Memory}
+use Rattle.mcs_top.specs.declared.report.Failure.{Failure}
+use Rattle.mcs_top.specs.declared.report.Failure.TheVariants.{Refused, Write, Memory}
 use Rattle.mcs_top.specs.declared.show.Ending.{Ending}
 use Rattle.mcs_top.specs.declared.show.Ending.TheVariants as ending
 use Rattle.mcs_top.specs.Files.{file_limit, IsNotRead}
@@ -19,7 +19,7 @@ pub record IsInputRead (framing : Framing) (file : List ℕ) (before read : Show
   pub is_read : IsRead file_limit file bytes before read
   pub shows : IsShowOf framing bytes end text
 
--- FILE was read and ends with END. `Told` says what became of the text that shows it, from what the
+-- FILE was read and ends well. `Told` says what became of the text that shows it, from what the
 -- store showed before.
 pub record IsInputTold (framing : Framing) (file : List ℕ) (before : Shown)
     (Told : Shown → List ℕ → Type 0) : Type 0 where
@@ -28,7 +28,7 @@ pub record IsInputTold (framing : Framing) (file : List ℕ) (before : Shown)
   pub input : IsInputRead framing file before read ending.End text
   pub told : Told read text
 
--- FILE was read and does not end with END. `Told` says what became of the text that shows it.
+-- FILE was read and does not end well. `Told` says what became of the text that shows it.
 pub record IsFaultyInputTold (framing : Framing) (file : List ℕ) (before : Shown)
     (Told : Shown → List ℕ → Type 0) : Type 0 where
   pub read : Shown
@@ -38,39 +38,39 @@ pub record IsFaultyInputTold (framing : Framing) (file : List ℕ) (before : Sho
   pub input : IsInputRead framing file before read end text
   pub told : Told read text
 
--- FILE was read and ends with END, and the text that shows it was written, in one write. Nothing else was
+-- FILE was read and ends well, and the text that shows it was written, in one write. Nothing else was
 -- asked for, and no fault was counted.
 abbrev pub HasShown : Framing → List ℕ → Shown → Shown → Type 0
 HasShown framing file before after = IsInputTold framing file before (IsWritten after)
 
 -- that write failed
-abbrev pub HasStoppedShowing : Framing → List ℕ → Shown → Shown → Type 0
-HasStoppedShowing framing file before after = IsInputTold framing file before (IsWriteFailed after)
+abbrev pub IsShowUnwritten : Framing → List ℕ → Shown → Shown → Type 0
+IsShowUnwritten framing file before after = IsInputTold framing file before (IsWriteFailed after)
 
 -- memory ran out before that write, or in it
-abbrev pub HasRunShortShowing : Framing → List ℕ → Shown → Shown → Type 0
-HasRunShortShowing framing file before after =
+abbrev pub LacksMemoryToShow : Framing → List ℕ → Shown → Shown → Type 0
+LacksMemoryToShow framing file before after =
     IsAbandoned file_limit file before after ⊎ IsInputTold framing file before (IsCutReport after)
 
--- a file that was read and does not end with END; this text shows it
+-- a file that was read and does not end well; this text shows it
 abbrev pub IsFaultyInput : Framing → List ℕ → Shown → Shown → List ℕ → Type 0
 IsFaultyInput framing file before read text =
     (end : Ending) × (end ≢ ending.End) × IsInputRead framing file before read end text
 
 -- why the file was not shown
-abbrev pub HasNotShown : Framing → List ℕ → Shown → Shown → Fault → Type 0
+abbrev pub HasNotShown : Framing → List ℕ → Shown → Shown → Failure → Type 0
 HasNotShown framing file before after (Refused (Unread name)) =
     (name.now ≡ file) × IsNotRead file before after
 HasNotShown framing file before after (Refused (Input text)) =
     IsFaultyInput framing file before after text
-HasNotShown framing file before after Memory = HasRunShortShowing framing file before after
-HasNotShown framing file before after Write = HasStoppedShowing framing file before after
+HasNotShown framing file before after Memory = LacksMemoryToShow framing file before after
+HasNotShown framing file before after Write = IsShowUnwritten framing file before after
 HasNotShown framing file before after (Refused Usage) = ⊥
 HasNotShown framing file before after (Refused (Description fault)) = ⊥
 HasNotShown framing file before after (Refused (Script line reason)) = ⊥
 
 -- why a text was not written
-abbrev pub IsUnwrittenFor : List ℕ → Shown → Shown → Fault → Type 0
+abbrev pub IsUnwrittenFor : List ℕ → Shown → Shown → Failure → Type 0
 IsUnwrittenFor text before after Write = IsWriteFailed after before text
 IsUnwrittenFor text before after Memory = IsCutReport after before text
 IsUnwrittenFor text before after (Refused refusal) = ⊥

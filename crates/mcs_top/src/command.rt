@@ -4,7 +4,8 @@ ghost use Rattle.com_msg.specs.declared.framing.Framing.{Framing as AFraming};
 ghost use Rattle.mcs_top.specs.Words.{is_file_word, framing_word, IsReplay, IsShow, IsNoCommand, IsCommand};
 ghost use Rattle.mcs_top.specs.Outcome.{IsOutcome, IsComplete, IsUsageOutcome, IsReplayOutcome, IsShowOutcome};
 
-use crate::replay::{Verdict, replay};
+use crate::ends::Verdict;
+use crate::replay::replay;
 use crate::report::{Refusal, answer, refuse};
 use crate::show::show;
 use com_io::{Clock, Store};

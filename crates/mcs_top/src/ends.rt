@@ -3,9 +3,17 @@ ghost use Rattle.std.specs.Prelude.{◌≡◌};
 ghost use Rattle.std.specs.List.{list_any};
 ghost use Rattle.mcs_top.specs.Histories.{stop_by, stop_reason, end_by, end_reason, is_fault_reason, is_fault_end, verdict_of};
 
-use crate::replay::Verdict;
 use com_events::{Call, EndReason, Entry, Party, StopReason};
 use com_text::Name;
+
+/// How the inputs of a history ended.
+#[derive(Clone, Copy, Debug, PartialEq, Eq)]
+pub enum Verdict {
+    /// No END of the history has FRAME, FAULT or LONG.
+    Sound,
+    /// One has.
+    Faulty,
+}
 
 /// Why a unit stops, by its first STOP.
 pub fn stop_reason(name: &Name, entries: &[Entry]) -> Option<StopReason>
@@ -52,7 +60,7 @@ fn end_by(name: &Name, entry: &Entry) -> Option<EndReason>
 }
 
 /// Faulty exactly where some input ended in a fault.
-pub fn verdict(entries: &[Entry]) -> Verdict
+pub fn verdict_of(entries: &[Entry]) -> Verdict
     ensures { result ≡ verdict_of entries.now }
 {
     if has_fault_end(entries) {

@@ -3,7 +3,7 @@ ghost use Rattle.std.specs.Prelude.{◌≡◌, IfOk, IfErr};
 ghost use Rattle.com_io.specs.Files.{IsRead};
 ghost use Rattle.mcs_top.specs.Files.{file_limit, IsNotReadFor};
 
-use crate::report::{Fault, Refusal};
+use crate::report::{Failure, Refusal};
 use com_io::{ReadFault, Store, read_file};
 use std::alloc::Global;
 
@@ -15,7 +15,7 @@ pub fn read_named<'a, S: Store>(
     alloc: Global,
     name: &'a str,
     store: &mut S,
-) -> Result<Vec<u8>, Fault<'a>>
+) -> Result<Vec<u8>, Failure<'a>>
     ensures ok { IfOk result
         (λ bytes. IsRead file_limit name.now bytes.items (S.shows store.old) (S.shows store.new)) }
     ensures err { IfErr result (IsNotReadFor name.now (S.shows store.old) (S.shows store.new)) }
@@ -23,7 +23,9 @@ pub fn read_named<'a, S: Store>(
 {
     match read_file(alloc, store, name, FILE_LIMIT) {
         Ok(bytes) => Ok(bytes),
-        Err(ReadFault::NotOpened | ReadFault::Failed) => Err(Fault::Refused(Refusal::Unread(name))),
-        Err(ReadFault::Memory) => Err(Fault::Memory),
+        Err(ReadFault::NotOpened | ReadFault::Failed) => Err(Failure::Refused(Refusal::Unread(
+            name,
+        ))),
+        Err(ReadFault::Memory) => Err(Failure::Memory),
     }
 }

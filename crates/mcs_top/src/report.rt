@@ -11,7 +11,7 @@ use std::alloc::{AllocError, Global};
 
 /// Why a command is not done.
 #[derive(Debug, Drop)]
-pub enum Fault<'a> {
+pub enum Failure<'a> {
     Refused(Refusal<'a>),
     /// A write of the outputs failed.
     Write,
@@ -48,13 +48,13 @@ const SCRIPT_REFUSED: u8 = 8;
 const INPUT_FAULTY: u8 = 9;
 
 /// The exit status of a command that is not done. A refusal's report is written first.
-pub fn answer<S: Store>(alloc: Global, fault: Fault<'_>, store: &mut S) -> u8
-    ensures { IsAnswerTo fault.entry result (S.shows store.old) (S.shows store.new) }
+pub fn answer<S: Store>(alloc: Global, failure: Failure<'_>, store: &mut S) -> u8
+    ensures { IsAnswerTo failure.entry result (S.shows store.old) (S.shows store.new) }
 {
-    match fault {
-        Fault::Refused(refusal) => refuse(alloc, refusal, store),
-        Fault::Write => WRITE_FAILED,
-        Fault::Memory => OUT_OF_MEMORY,
+    match failure {
+        Failure::Refused(refusal) => refuse(alloc, refusal, store),
+        Failure::Write => WRITE_FAILED,
+        Failure::Memory => OUT_OF_MEMORY,
     }
 }
 

@@ -2,12 +2,12 @@
 ghost use Rattle.std.specs.Prelude.{◌≡◌, ◌++◌, ◌<◌, ◌^◌, IfOk, OnOk};
 ghost use Rattle.com_events.specs.Calls.{HasText};
 ghost use Rattle.com_journal.specs.Journals.{IsJournal};
+ghost use Rattle.com_journal.specs.Lines.{IsCallText};
 ghost use Rattle.com_state.specs.State.{opening};
 ghost use Rattle.mcs_top.specs.Histories.{is_arrival, is_portion, verdict_of};
 ghost use Rattle.mcs_top.specs.Running.{is_last_call, Adds, HasNothing};
 
-use crate::ends;
-use crate::replay::Verdict;
+use crate::ends::{Verdict, verdict_of};
 use com_events::{Call, Entry, Reply};
 use com_journal::{write, write_entry};
 use com_net::Net;
@@ -42,15 +42,16 @@ impl Run {
         })
     }
 
-    /// Adds an entry to what is kept of the history.
-    pub fn add(&mut self, entry: Entry) -> Result<(), AllocError>
+    /// Adds an entry, whose call has this text, to what is kept of the history.
+    pub fn add(&mut self, call: &[u8], entry: Entry) -> Result<(), AllocError>
         requires text { HasText entry }
+        requires call { IsCallText entry.party entry.call call.now }
         requires arrivals { self.old.arrivals < 2 ^ 63 }
         requires portions { self.old.portions < 2 ^ 63 }
         ensures state { OnOk result (self.new.state ≡ self.old.state) }
         ensures added { OnOk result (Adds entry self.old self.new) }
     {
-        write_entry(&entry, &mut self.journal)?;
+        write_entry(call, &entry, &mut self.journal)?;
         if is_arrival(&entry.call) {
             self.arrivals += 1;
         }
@@ -67,7 +68,7 @@ impl Run {
     pub fn verdict(&self) -> Verdict
         ensures { result ≡ verdict_of self.now.ends }
     {
-        ends::verdict(self.ends.as_slice())
+        verdict_of(self.ends.as_slice())
     }
 }
 

@@ -2,7 +2,7 @@
 ghost use Rattle.std.specs.Prelude.{◌≡◌, ◌<◌, ◌^◌, length, IfOk, IfErr, OnOk};
 ghost use Rattle.com_journal.specs.Scripts.{lines_of};
 ghost use Rattle.mcs_top.specs.Refusal.{IsRefused};
-ghost use Rattle.mcs_top.specs.Running.{IsRunOf, HasDoneLines, DoesLine, IsLineRefused, IsStopped, TellsRefusedLine, fault_at};
+ghost use Rattle.mcs_top.specs.Running.{IsRunOf, HasDoneLines, DoesLine, IsLineRefused, AreRefused, TellsRefusedLine, failure_at};
 
 use crate::files::FILE_LIMIT;
 use crate::run::Run;
@@ -24,7 +24,7 @@ pub enum Reason {
 
 /// Why a script was not done.
 #[derive(Clone, Copy, Debug, PartialEq, Eq)]
-pub enum ScriptFault {
+pub enum ScriptFailure {
     /// The first line that is refused, from 1.
     Refused { line: u64, reason: Reason },
     Memory,
@@ -32,36 +32,36 @@ pub enum ScriptFault {
 
 /// Why a line was not done.
 #[derive(Clone, Copy, Debug, PartialEq, Eq)]
-enum LineFault {
+enum LineFailure {
     Text,
     NotAllowed,
     Memory,
 }
 
-impl From<AllocError> for LineFault {
-    ghost use Rattle.mcs_top.specs.declared.script.LineFault.TheVariants.{Memory};
+impl From<AllocError> for LineFailure {
+    ghost use Rattle.mcs_top.specs.declared.script.LineFailure.TheVariants.{Memory};
 
     ghost from_gives = { λ _ fault. fault ≡ Memory };
 
-    fn from(_error: AllocError) -> LineFault {
-        LineFault::Memory
+    fn from(_error: AllocError) -> LineFailure {
+        LineFailure::Memory
     }
 }
 
 /// Does the calls of a script on a system in which nothing has happened.
-pub fn perform(alloc: Global, net: &Net, script: &[u8]) -> Result<Run, ScriptFault>
+pub fn perform(alloc: Global, net: &Net, script: &[u8]) -> Result<Run, ScriptFailure>
     ensures run { IfOk result (IsRunOf net.now script.now) }
     ensures refused { IfErr result (TellsRefusedLine net.now script.now) }
 {
     if script.len() > FILE_LIMIT {
-        return Err(ScriptFault::Refused {
+        return Err(ScriptFailure::Refused {
             line: 1,
             reason: Reason::Size,
         });
     }
     match script_lines(script) {
         Some(lines) => perform_lines(alloc, net, lines),
-        None => Err(ScriptFault::Refused {
+        None => Err(ScriptFailure::Refused {
             line: 1,
             reason: Reason::Text,
         }),
@@ -69,55 +69,55 @@ pub fn perform(alloc: Global, net: &Net, script: &[u8]) -> Result<Run, ScriptFau
 }
 
 /// Does the lines behind the header.
-fn perform_lines(alloc: Global, net: &Net, lines: Lines<'_>) -> Result<Run, ScriptFault>
+fn perform_lines(alloc: Global, net: &Net, lines: Lines<'_>) -> Result<Run, ScriptFailure>
     requires few { length lines < 2 ^ 62 }
     ensures done { IfOk result (HasDoneLines net.now (lines_of lines.entry)) }
-    ensures refused { IfErr result (IsStopped net.now (lines_of lines.entry)) }
+    ensures refused { IfErr result (AreRefused net.now (lines_of lines.entry)) }
 {
     let mut lines = lines;
     let Ok(mut run) = Run::new(alloc, net) else {
-        return Err(ScriptFault::Memory);
+        return Err(ScriptFailure::Memory);
     };
     let mut number = 1u64;
     while let Some(line) = lines.next_line() {
         number += 1;
         if let Err(fault) = perform_line(alloc, &mut run, line.text) {
-            return Err(fault_at(number, fault));
+            return Err(failure_at(number, fault));
         }
     }
     Ok(run)
 }
 
-fn fault_at(line: u64, fault: LineFault) -> ScriptFault
-    ensures { result ≡ fault_at line fault }
+fn failure_at(line: u64, fault: LineFailure) -> ScriptFailure
+    ensures { result ≡ failure_at line fault }
 {
     match fault {
-        LineFault::Text => ScriptFault::Refused {
+        LineFailure::Text => ScriptFailure::Refused {
             line,
             reason: Reason::Text,
         },
-        LineFault::NotAllowed => ScriptFault::Refused {
+        LineFailure::NotAllowed => ScriptFailure::Refused {
             line,
             reason: Reason::NotAllowed,
         },
-        LineFault::Memory => ScriptFault::Memory,
+        LineFailure::Memory => ScriptFailure::Memory,
     }
 }
 
 /// Does the call of a line.
-fn perform_line(alloc: Global, run: &mut Run, line: &[u8]) -> Result<(), LineFault>
+fn perform_line(alloc: Global, run: &mut Run, line: &[u8]) -> Result<(), LineFailure>
     requires arrivals { run.old.arrivals < 2 ^ 63 }
     requires portions { run.old.portions < 2 ^ 63 }
     ensures done { OnOk result (DoesLine line.now run.old run.new) }
     ensures refused { IfErr result (IsLineRefused run.old.state line.now) }
 {
     let Some((party, call)) = call_line(alloc, line)? else {
-        return Err(LineFault::Text);
+        return Err(LineFailure::Text);
     };
     if !run.state.may(&party, &call) {
-        return Err(LineFault::NotAllowed);
+        return Err(LineFailure::NotAllowed);
     }
     let reply = run.state.apply(&party, &call)?;
-    run.add(Entry { party, call, reply })?;
+    run.add(line, Entry { party, call, reply })?;
     Ok(())
 }

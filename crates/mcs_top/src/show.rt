@@ -1,17 +1,17 @@
 //! Showing how a file of terminal input is framed.
 ghost use Rattle.std.specs.Prelude.{◌≡◌, [], ◌∷◌, ◌++◌, IfOk, IfErr, OnOk, take};
 ghost use Rattle.com_text.specs.Counted.{counted_field};
-ghost use Rattle.com_journal.specs.Words.{end_word, frame_word};
 ghost use Rattle.mcs_top.specs.Files.{file_limit};
 ghost use Rattle.mcs_top.specs.Reports.{IsWritten};
 ghost use Rattle.mcs_top.specs.Show.{EndsSo, IsShowOf, ending_line, message_heading, message_line, message_lines, segment_fields};
 ghost use Rattle.mcs_top.specs.Showing.{HasShown, HasNotShown, IsUnwrittenFor};
 
 use crate::files::{FILE_LIMIT, read_named};
-use crate::report::{Fault, Refusal};
+use crate::report::{Failure, Refusal};
 use com_io::{OUTPUT_NAME, Store, StoreFault};
+use com_journal::{end_word, frame_word};
 use com_lines::{FeedError, Framer};
-use com_msg::{End, FrameFault, FrameKind, Framing, RawMessage};
+use com_msg::{FrameFault, Framing, RawMessage};
 use com_text::{Rows, Text, put_number};
 use std::alloc::{AllocError, Global};
 
@@ -33,7 +33,7 @@ pub fn show<'a, S: Store>(
     framing: Framing,
     file: &'a str,
     store: &mut S,
-) -> Result<(), Fault<'a>>
+) -> Result<(), Failure<'a>>
     ensures ok { OnOk result (HasShown framing file.now (S.shows store.old) (S.shows store.new)) }
     ensures err { IfErr result
         (HasNotShown framing file.now (S.shows store.old) (S.shows store.new)) }
@@ -42,21 +42,21 @@ pub fn show<'a, S: Store>(
     let input = read_named(alloc, file, store)?;
     match text_of(alloc, framing, &input) {
         Ok((Ending::End, text)) => write(&text, store),
-        Ok((_, text)) => Err(Fault::Refused(Refusal::Input(text))),
-        Err(_) => Err(Fault::Memory),
+        Ok((_, text)) => Err(Failure::Refused(Refusal::Input(text))),
+        Err(_) => Err(Failure::Memory),
     }
 }
 
 /// Writes what is shown.
-fn write<'a, S: Store>(text: &Rows<u8>, store: &mut S) -> Result<(), Fault<'a>>
+fn write<'a, S: Store>(text: &Rows<u8>, store: &mut S) -> Result<(), Failure<'a>>
     ensures ok { OnOk result (IsWritten (S.shows store.new) (S.shows store.old) text.now) }
     ensures err { IfErr result (IsUnwrittenFor text.now (S.shows store.old) (S.shows store.new)) }
     ensures pending { (S.shows store.new).pending ≡ (S.shows store.old).pending }
 {
     match store.write(OUTPUT_NAME, text.as_slice()) {
         Ok(()) => Ok(()),
-        Err(StoreFault::Failed) => Err(Fault::Write),
-        Err(StoreFault::Memory) => Err(Fault::Memory),
+        Err(StoreFault::Failed) => Err(Failure::Write),
+        Err(StoreFault::Memory) => Err(Failure::Memory),
     }
 }
 
@@ -177,25 +177,4 @@ fn put_fault(out: &mut Rows<u8>, fault: FrameFault) -> Result<(), AllocError>
     out.extend_from_slice(b" ")?;
     put_number(out, fault.at)?;
     out.extend_from_slice(b"\n")
-}
-
-fn end_word(end: End) -> &'static [u8]
-    ensures { result.now ≡ end_word end }
-{
-    match end {
-        End::Emi => b"EMI",
-        End::Egi => b"EGI",
-    }
-}
-
-fn frame_word(kind: FrameKind) -> &'static [u8]
-    ensures { result.now ≡ frame_word kind }
-{
-    match kind {
-        FrameKind::BadByte => b"BADBYTE",
-        FrameKind::LongSegment => b"LONGSEGMENT",
-        FrameKind::LongMessage => b"LONGMESSAGE",
-        FrameKind::TooMany => b"TOOMANY",
-        FrameKind::Truncated => b"TRUNCATED",
-    }
 }

@@ -37,6 +37,9 @@ add-requires-clause-text c =
     has_text c.in-Some.party c.in-Some.call c.in_ok-reply.reply c.args.line.now (text_of c.args.line.now c.in_ok-party.field-0 c.in-Some.party c.in-Some.call c.in_ok-party.ensures.found c.in-Some.is)
     c.in_ok-reply.ensures.reply
 
+pub add-requires-clause-call : goal.add-requires-clause-call
+add-requires-clause-call c = text_of c.args.line.now c.in_ok-party.field-0 c.in-Some.party c.in-Some.call c.in_ok-party.ensures.found c.in-Some.is
+
 pub add-requires-clause-arrivals : goal.add-requires-clause-arrivals
 add-requires-clause-arrivals c = c.requires.arrivals
 

@@ -21,7 +21,7 @@ perform_line-requires-clause-portions c =
 pub returns-in-Err-clause-refused : goal.returns-in-Err-clause-refused
 returns-in-Err-clause-refused c =
     let first = lines-first c.loop-line.lines c.in-Some.line.text.now c.next_line.new.self c.in-Some.line.is_ended c.in-Some.ensures.line in
-    rw c.fault_at.ensures (stopped_by c.args.net.now (lines_of c.args.lines) c.loop-line.lines c.next_line.new.self c.in-Some.line.text.now c.loop-line.run c.loop-line.number c.in-Err.fault c.loop-line.invariant.done first c.in-Err.ensures.refused)
+    rw c.failure_at.ensures (stopped_by c.args.net.now (lines_of c.args.lines) c.loop-line.lines c.next_line.new.self c.in-Some.line.text.now c.loop-line.run c.loop-line.number c.in-Err.fault c.loop-line.invariant.done first c.in-Err.ensures.refused)
 
 pub loop-line-preserved : goal.loop-line-preserved
 loop-line-preserved c =
