@@ -11,7 +11,7 @@ use Rattle.cob_forms.specs.Sorts.{Sort, is, reserved, name, any_word, of_kind, i
 use Rattle.cob_forms.specs.Written.{name_of, number_of, literal_of}
 use Rattle.cob_forms.specs.Readers as readers
 use Rattle.cob_forms.specs.Readers.{Reader, begins, go_on, found, at, turns}
-use Rattle.cob_forms.specs.Forms.{Part, Rows, behind, starts}
+use Rattle.cob_forms.specs.Forms.{Part, Alternatives, behind, starts}
 use Rattle.cob_forms.specs.Spelling.{Spelling, the, made, perhaps, written, unless, all_of, some_of, maybe_of, IsName, IsNumber, IsLiteral}
 use Rattle.cob_forms.proofs.Agreement.{Enters, Opens}
 
@@ -129,14 +129,14 @@ pub written_ok : (b : Bool) (sort : Sort) (ts rest : List Token) → written b s
 written_ok true sort ts rest h = rw (is_next sort h.0 ts rest h.1, word_ok sort h.0 ts rest h.1) refl
 written_ok false sort ts rest h = let n : begins (is sort) ts ≡ false = rw (← h.0) (h.1) in rw n (ap (λ r. Ok (false, r)) (sym h.0))
 
-begun_at : {Form A : Type 0} (rows_of : Form → Rows Form) (res : Result (A × List Token) ℕ) (o : Option (List (Part Form))) (t : Token) (ts : List Token) (x : A) (rest : List Token) → Enters rows_of res o t ts → res ≡ Ok (x, rest) → is_some o ≡ true
-begun_at rows_of res None t ts x rest h e = let no : ⊥ = cc in absurd no
-begun_at rows_of res (Some parts) t ts x rest h e = refl
+begun_at : {Form A : Type 0} (alternatives_of : Form → Alternatives Form) (res : Result (A × List Token) ℕ) (o : Option (List (Part Form))) (t : Token) (ts : List Token) (x : A) (rest : List Token) → Enters alternatives_of res o t ts → res ≡ Ok (x, rest) → is_some o ≡ true
+begun_at alternatives_of res None t ts x rest h e = let no : ⊥ = cc in absurd no
+begun_at alternatives_of res (Some parts) t ts x rest h e = refl
 
 -- what is read begins with a sort with which its form begins
-pub begun : {Form A : Type 0} {n : ℕ} {rows_of : Form → Rows Form} {r : Reader A} {rows : Rows Form} → Opens n rows_of r rows → (x : A) (ts rest : List Token) → length ts ≤ n → r ts ≡ Ok (x, rest) → begins (starts rows) ts ≡ true
+pub begun : {Form A : Type 0} {n : ℕ} {alternatives_of : Form → Alternatives Form} {r : Reader A} {alternatives : Alternatives Form} → Opens n alternatives_of r alternatives → (x : A) (ts rest : List Token) → length ts ≤ n → r ts ≡ Ok (x, rest) → begins (starts alternatives) ts ≡ true
 begun {r = r} h x [] rest le e = let k : r [] ≡ Err 0 = h.nothing in let no : ⊥ = cc in absurd no
-begun {rows_of = rows_of} {r = r} {rows = rows} h x (t ∷ ts) rest le e = begun_at rows_of (r (t ∷ ts)) (behind rows t) t ts x rest (h.on t ts le) e
+begun {alternatives_of = alternatives_of} {r = r} {alternatives = alternatives} h x (t ∷ ts) rest le e = begun_at alternatives_of (r (t ∷ ts)) (behind alternatives t) t ts x rest (h.on t ts le) e
 
 module _ {A : Type 0} (test : Token → Bool) (r : Reader A) (S : A → Spelling) (bound : ℕ)
     (ok : (x : A) (ts rest : List Token) → length ts ≤ bound → S x ts rest → r ts ≡ Ok (x, rest))
@@ -185,28 +185,28 @@ module _ {A : Type 0} (test : Token → Bool) (r : Reader A) (S : A → Spelling
     further_ok x (y ∷ ys) ts rest lt e = (begins_with y ts e.0 lt (ok y ts e.0 lt e.1), more_ok x (y ∷ ys) ts rest lt e)
 
 -- tokens that begin with none of the sorts with which a form begins
-abbrev pub NoneOf : {Form : Type 0} → Rows Form → List Token → Type 0
+abbrev pub NoneOf : {Form : Type 0} → Alternatives Form → List Token → Type 0
 NoneOf [] ts = Unit {0}
-NoneOf (row ∷ rows) ts = (begins (is row.0) ts ≡ false) × NoneOf rows ts
+NoneOf (alternative ∷ alternatives) ts = (begins (is alternative.0) ts ≡ false) × NoneOf alternatives ts
 
 none_at : {Form : Type 0} (parts : List (Part Form)) (o : Option (List (Part Form))) (b : Bool) → b ≡ false → is_some o ≡ false → is_some (if b then Some parts else o) ≡ false
 none_at parts o true h k = h
 none_at parts o false h k = k
 
-pub none_starts : {Form : Type 0} (rows : Rows Form) (ts : List Token) → NoneOf rows ts → begins (starts rows) ts ≡ false
-none_starts rows [] h = refl
+pub none_starts : {Form : Type 0} (alternatives : Alternatives Form) (ts : List Token) → NoneOf alternatives ts → begins (starts alternatives) ts ≡ false
+none_starts alternatives [] h = refl
 none_starts [] (t ∷ ts) h = refl
-none_starts (row ∷ rows) (t ∷ ts) h = none_at row.1 (behind rows t) (is row.0 t) (h.0) (none_starts rows (t ∷ ts) h.1)
+none_starts (alternative ∷ alternatives) (t ∷ ts) h = none_at alternative.1 (behind alternatives t) (is alternative.0 t) (h.0) (none_starts alternatives (t ∷ ts) h.1)
 
 none_here : {Form : Type 0} (parts : List (Part Form)) (o : Option (List (Part Form))) (b : Bool) → is_some (if b then Some parts else o) ≡ false → (b ≡ false) × (is_some o ≡ false)
 none_here parts o true h = let no : ⊥ = cc in absurd no
 none_here parts o false h = (refl, h)
 
-none_of_none : {Form : Type 0} (rows : Rows Form) → NoneOf rows []
+none_of_none : {Form : Type 0} (alternatives : Alternatives Form) → NoneOf alternatives []
 none_of_none [] = tt
-none_of_none (row ∷ rows) = (refl, none_of_none rows)
+none_of_none (alternative ∷ alternatives) = (refl, none_of_none alternatives)
 
-pub starts_none : {Form : Type 0} (rows : Rows Form) (ts : List Token) → begins (starts rows) ts ≡ false → NoneOf rows ts
-starts_none rows [] h = none_of_none rows
+pub starts_none : {Form : Type 0} (alternatives : Alternatives Form) (ts : List Token) → begins (starts alternatives) ts ≡ false → NoneOf alternatives ts
+starts_none alternatives [] h = none_of_none alternatives
 starts_none [] (t ∷ ts) h = tt
-starts_none (row ∷ rows) (t ∷ ts) h = let k = none_here row.1 (behind rows t) (is row.0 t) h in (k.0, starts_none rows (t ∷ ts) k.1)
+starts_none (alternative ∷ alternatives) (t ∷ ts) h = let k = none_here alternative.1 (behind alternatives t) (is alternative.0 t) h in (k.0, starts_none alternatives (t ∷ ts) k.1)

@@ -160,3 +160,16 @@ behind_all x y (z ∷ zs) h k = (still_behind x y z h k.0, behind_all x y zs h k
 pub not_first : (x : SourceFault) (ys : List SourceFault) → AreBehind x ys → earlier (first ys) (Some x) ≡ Some x
 not_first x [] h = refl
 not_first x (y ∷ ys) h = sym (grouped (Some y) (first ys) (Some x)) ∙ ap (earlier (Some y)) (not_first x ys h.1) ∙ rw (h.0) refl
+
+not_both : (x y : SourceFault) (b : Bool) → is_before x y ≡ b → is_before y x ≡ true → b ≡ false
+not_both x y true h k = absurd (one_way x y h k)
+not_both x y false h k = refl
+
+chosen_not_later : (x y g : SourceFault) (b : Bool) → is_before y x ≡ b → (if b then Some y else Some x) ≡ Some g → is_before x g ≡ false
+chosen_not_later x y g true h e = let same : y ≡ g = cc in rw (← same) (not_both x y (is_before x y) refl h)
+chosen_not_later x y g false h e = let same : x ≡ g = cc in rw (← same) (not_before_itself x.line x.column (rank x.kind))
+
+-- the first of a fault and others is not behind the fault
+pub not_later : (x g : SourceFault) (o : Option SourceFault) → earlier (Some x) o ≡ Some g → is_before x g ≡ false
+not_later x g None e = let same : x ≡ g = cc in rw (← same) (not_before_itself x.line x.column (rank x.kind))
+not_later x g (Some y) e = chosen_not_later x y g (is_before y x) refl e

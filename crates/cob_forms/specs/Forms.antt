@@ -17,23 +17,23 @@ pub data Part (Form : Type 0) : Type 0 where
   never : Sort → Part Form
 
 -- A form by the sorts of token with which it may begin, each with the parts behind that token. What begins
--- alike is one row, so it is read together as far as it is alike.
-abbrev pub Rows : Type 0 → Type 0
-Rows Form = List (Sort × List (Part Form))
+-- alike is one alternative, so it is read together as far as it is alike.
+abbrev pub Alternatives : Type 0 → Type 0
+Alternatives Form = List (Sort × List (Part Form))
 
--- rows with further parts behind each
-abbrev pub with_tail : {Form : Type 0} → List (Part Form) → Rows Form → Rows Form
+-- alternatives with further parts behind each
+abbrev pub with_tail : {Form : Type 0} → List (Part Form) → Alternatives Form → Alternatives Form
 with_tail tail [] = []
-with_tail tail (row ∷ rows) = (row.0, row.1 ++ tail) ∷ with_tail tail rows
+with_tail tail (alternative ∷ alternatives) = (alternative.0, alternative.1 ++ tail) ∷ with_tail tail alternatives
 
 -- the parts behind a token with which a form begins
-abbrev pub behind : {Form : Type 0} → Rows Form → Token → Option (List (Part Form))
+abbrev pub behind : {Form : Type 0} → Alternatives Form → Token → Option (List (Part Form))
 behind [] t = None
-behind (row ∷ rows) t = if is row.0 t then Some row.1 else behind rows t
+behind (alternative ∷ alternatives) t = if is alternative.0 t then Some alternative.1 else behind alternatives t
 
 -- whether a token is of a sort with which a form begins
-abbrev pub starts : {Form : Type 0} → Rows Form → Token → Bool
-starts rows t = is_some (behind rows t)
+abbrev pub starts : {Form : Type 0} → Alternatives Form → Token → Bool
+starts alternatives t = is_some (behind alternatives t)
 
 -- the parts of a form that was entered, before those below it
 abbrev pub entered : {Form : Type 0} → Option (List (Part Form)) → List (Part Form) → Option (List (Part Form)) → Option (List (Part Form))
@@ -42,13 +42,13 @@ entered (Some parts) below other = Some (parts ++ below)
 
 -- The parts that are left behind a token: none where it is of none of the sorts that may come next. An
 -- optional part and a further turn are entered exactly where the token is of a sort with which they begin.
-unfoldable pub next : {Form : Type 0} → (Form → Rows Form) → List (Part Form) → Token → Option (List (Part Form))
-next rows_of [] t = None
-next rows_of (token sort ∷ below) t = if is sort t then Some below else None
-next rows_of (form f ∷ below) t = entered (behind (rows_of f) t) below None
-next rows_of (maybe f ∷ below) t = entered (behind (rows_of f) t) below (next rows_of below t)
-next rows_of (more f ∷ below) t = entered (behind (rows_of f) t) (more f ∷ below) (next rows_of below t)
-next rows_of (never sort ∷ below) t = if is sort t then None else next rows_of below t
+unfoldable pub next : {Form : Type 0} → (Form → Alternatives Form) → List (Part Form) → Token → Option (List (Part Form))
+next alternatives_of [] t = None
+next alternatives_of (token sort ∷ below) t = if is sort t then Some below else None
+next alternatives_of (form f ∷ below) t = entered (behind (alternatives_of f) t) below None
+next alternatives_of (maybe f ∷ below) t = entered (behind (alternatives_of f) t) below (next alternatives_of below t)
+next alternatives_of (more f ∷ below) t = entered (behind (alternatives_of f) t) (more f ∷ below) (next alternatives_of below t)
+next alternatives_of (never sort ∷ below) t = if is sort t then None else next alternatives_of below t
 
 -- no part that is left has to come
 abbrev pub may_end : {Form : Type 0} → List (Part Form) → Bool
@@ -70,8 +70,8 @@ goes_on None others left = wanted left
 goes_on (Some parts) others left = others parts
 
 -- reading goes over the tokens once, from left to right
-unfoldable pub reading : {Form : Type 0} → (Form → Rows Form) → List (Part Form) → List Token → Reading
-reading rows_of [] ts = ends ts
-reading rows_of (part ∷ parts) [] = if may_end (part ∷ parts) then ends [] else wanted 0
-reading rows_of (part ∷ parts) (t ∷ ts) =
-    goes_on (next rows_of (part ∷ parts) t) (λ left. reading rows_of left ts) (length (t ∷ ts))
+unfoldable pub reading : {Form : Type 0} → (Form → Alternatives Form) → List (Part Form) → List Token → Reading
+reading alternatives_of [] ts = ends ts
+reading alternatives_of (part ∷ parts) [] = if may_end (part ∷ parts) then ends [] else wanted 0
+reading alternatives_of (part ∷ parts) (t ∷ ts) =
+    goes_on (next alternatives_of (part ∷ parts) t) (λ left. reading alternatives_of left ts) (length (t ∷ ts))

@@ -4,3 +4,4 @@ pub mod Faults
 pub mod Written
 pub mod Readers
 pub mod Spelling
+pub mod Answers

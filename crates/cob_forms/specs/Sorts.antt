@@ -1,5 +1,5 @@
 -- Sorts of tokens, as the forms of a program name them.
-use Rattle.std.specs.Prelude.{ℕ, Bool, not, ◌&&◌, ◌==◌, List, [], ◌∷◌, codes, bytes_eq}
+use Rattle.std.specs.Prelude.{ℕ, Bool, not, ◌&&◌, ◌==◌, nat_le, List, [], ◌∷◌, codes, bytes_eq}
 use Rattle.std.specs.List.{list_any}
 use Rattle.cob_lex.specs.declared.token.Token.{Token}
 use Rattle.cob_lex.specs.declared.token.TokenKind.{TokenKind}
@@ -58,3 +58,7 @@ is (reserved text) token = is_of_kind tokens.Word token && bytes_eq token.text t
 is name token = is_of_kind tokens.Word token && not (is_reserved token.text)
 is any_word token = is_of_kind tokens.Word token
 is (of_kind k) token = is_of_kind k token
+
+-- it begins in area A
+abbrev pub in_area_a : Token → Bool
+in_area_a token = nat_le 8 token.column && nat_le token.column 11

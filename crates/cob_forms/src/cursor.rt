@@ -1,6 +1,6 @@
 //! What comes next, and taking it from the front of some tokens.
 ghost use Rattle.std.specs.Prelude.{◌≡◌, ◌<◌, ◌≤◌, IfOk, Ok, length};
-ghost use Rattle.cob_forms.specs.Sorts.{is, name, of_kind, reserved};
+ghost use Rattle.cob_forms.specs.Sorts.{in_area_a, is, name, of_kind, reserved};
 ghost use Rattle.cob_forms.specs.Readers.{Gives, begins, one, optional, read_literal, read_name, read_number};
 
 use crate::Stop;
@@ -28,6 +28,13 @@ pub fn is_kind(token: &Token, kind: TokenKind) -> bool
     ensures { result ≡ is (of_kind kind) token.now }
 {
     token.kind == kind
+}
+
+/// Whether a token begins in area A.
+pub fn in_area_a(token: &Token) -> bool
+    ensures { result ≡ in_area_a token.now }
+{
+    8 <= token.column && token.column <= 11
 }
 
 /// Whether this reserved word comes next.

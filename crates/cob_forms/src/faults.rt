@@ -1,6 +1,7 @@
 //! The first of several faults.
-ghost use Rattle.std.specs.Prelude.{◌≡◌, Some};
-ghost use Rattle.cob_forms.specs.Faults.{earlier, fault, first, is_before, noted, rank};
+ghost use Rattle.std.specs.Prelude.{◌≡◌, ◌≤◌, Some, drop, length, take};
+ghost use Rattle.cob_lex.specs.declared.fault.SourceKind.TheVariants.{WantedWord};
+ghost use Rattle.cob_forms.specs.Faults.{at_first, before_wanted, earlier, fault, first, is_before, noted, rank};
 
 use cob_lex::{SourceFault, SourceKind, Token};
 
@@ -13,6 +14,41 @@ pub fn fault_at(token: &Token, kind: SourceKind) -> SourceFault
         column: token.column,
         kind,
     }
+}
+
+/// How many tokens stand before the place where another is wanted, by how many are left there.
+fn count_before(tokens: &[Token], left: usize) -> usize
+    ensures value { result ≡ before_wanted tokens.now left }
+    ensures within { result ≤ length tokens.now }
+{
+    if left == 0 {
+        return tokens.len().saturating_sub(1);
+    }
+    tokens.len().saturating_sub(left)
+}
+
+/// That another word or sign is wanted at the first of some tokens.
+fn wanted_at(tokens: &[Token]) -> SourceFault
+    ensures { result ≡ at_first WantedWord tokens.now }
+{
+    match tokens {
+        [token, ..] => fault_at(token, SourceKind::WantedWord),
+        [] => SourceFault {
+            line: 1,
+            column: 1,
+            kind: SourceKind::WantedWord,
+        },
+    }
+}
+
+/// The tokens before the place where another is wanted, by how many are left there, and the fault that it is
+/// wanted.
+pub fn split_wanted(tokens: &[Token], left: usize) -> (&[Token], SourceFault)
+    ensures front { result.0.now ≡ take (before_wanted tokens.now left) tokens.now }
+    ensures wanted { result.1 ≡ at_first WantedWord (drop (before_wanted tokens.now left) tokens.now) }
+{
+    let (front, behind) = tokens.split_at(count_before(tokens, left));
+    (front, wanted_at(behind))
 }
 
 /// A fault at a token, where there is one.

@@ -8,8 +8,17 @@
 //! of the form `GO [TO] p` with the tokens of `GO TO STOP`, the third is where a name is wanted.
 //!
 //! These are definitions in `specs`. Of code there is the cursor, which says what comes next and takes it
-//! from the front of some tokens, and `first_of`, the first of two faults. That the first of several faults does not depend on how they are grouped
-//! is a law, `first_of_both`.
+//! from the front of some tokens, and `first_of`, the first of two faults. That the first of several faults
+//! does not depend on how they are grouped is a law, `first_of_both`.
+//!
+//! ```rust
+//! // the tokens of GO TO STOP
+//! let (_, rest) = take_word(tokens, b"GO")?;
+//! let rest = skip_word(rest, b"TO");
+//!
+//! // stopped: a name is wanted where one token is left
+//! let stopped = take_name(rest);
+//! ```
 #![tactic(auto)]
 
 mod cursor;
@@ -20,10 +29,10 @@ mod stop;
 mod written;
 
 pub use cursor::{
-    is_kind, is_name, is_word, next_is_kind, next_is_name, next_is_word, skip_word, take_kind,
-    take_literal, take_name, take_number, take_word,
+    in_area_a, is_kind, is_name, is_word, next_is_kind, next_is_name, next_is_word, skip_word,
+    take_kind, take_literal, take_name, take_number, take_word,
 };
-pub use faults::{fault_at, first_of, first_with, is_before, noted};
+pub use faults::{fault_at, first_of, first_with, is_before, noted, split_wanted};
 pub use laws::first_of_both;
 pub use reserved::is_reserved;
 pub use stop::Stop;

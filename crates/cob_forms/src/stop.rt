@@ -2,7 +2,7 @@
 use std::alloc::{AllocError, AllocFailed};
 
 /// Why a form was not read.
-#[derive(Debug, Drop)]
+#[derive(Clone, Copy, Debug)]
 pub enum Stop {
     /// Another token is wanted where this many are left, the wrong one among them.
     Wanted(usize),

@@ -14,3 +14,6 @@ pub mod LongestPicture
 pub mod LongestFront
 pub mod SpelledTokens
 pub mod SpelledPlaces
+pub mod SpelledOrder
+mod WorkedComments
+mod WorkedLiterals

@@ -1,26 +1,17 @@
 -- What stands at the front of bytes is the longest token there.
-use Rattle.std.proofs.Common.{◌≡◌, ◌≢◌, ℕ, zero, suc, ◌+◌, ◌-◌, ◌<◌, ◌≤◌, Bool, true, false, not, ◌&&◌, ◌||◌, ◌==◌, cond, nat_le, List, [], ◌∷◌, ◌++◌, length, take, drop, slice_index, Option, Some, None, ◌⊎◌, inl, inr, refl, ap, sym, subst, ◌∙◌, arith, codes}
+use Rattle.std.proofs.Common.{◌≡◌, ℕ, suc, ◌+◌, ◌≤◌, Bool, true, false, ◌&&◌, cond, List, [], ◌∷◌, length, take, drop, ◌⊎◌, inl, inr, refl, ap, subst, ◌∙◌, arith}
 use Rattle.std.specs.List.{list_all, list_any, prefix_len, take_while}
-use Rattle.std.specs.Option.{option_map}
-use Rattle.std.specs.Str.{bytes_eq}
-use Rattle.std.proofs.lemmas.Bool.{and_parts, or_parts, eqb-true}
-use Rattle.std.proofs.lemmas.Bool.Decides.{nat_tests}
-use Rattle.std.proofs.lemmas.List.{length-take-le}
 use Rattle.std.proofs.lemmas.List.Folds.{length-prefix_len}
 use Rattle.std.proofs.lemmas.List.Sums.{prefix_len-le-length}
-use Rattle.std.proofs.lemmas.Slice.Eq.{bytes_eq-Decides}
 use Rattle.cob_lex.specs.declared.fault.SourceKind.TheVariants as faults
 use Rattle.cob_lex.specs.declared.token.TokenKind.{TokenKind}
 use Rattle.cob_lex.specs.declared.token.TokenKind.TheVariants as tokens
 use Rattle.cob_lex.specs.declared.front.Awaited.{Awaited}
-use Rattle.cob_lex.specs.declared.front.Awaited.TheVariants as awaited
 use Rattle.cob_lex.specs.declared.front.Front.{Front}
 use Rattle.cob_lex.specs.declared.front.Front.TheVariants as fronts
-use Rattle.com_text.specs.Name.{is_letter}
-use Rattle.cob_lex.specs.Characters.{is_comma, is_no_space, is_period, is_quote, is_separator, is_space, is_spacing, is_word_byte, space_next, without_last}
-use Rattle.cob_lex.specs.Literals.{characters_of, closing, is_literal}
-use Rattle.cob_lex.specs.Fronts.{front_of, is_awaited_is, is_number, is_picture_front, is_word, literal_front, may_be_picture, picture_front, picture_run, plain_front, run_front, sign_front, sign_kind}
-use Rattle.cob_lex.specs.Spelled.{IsLongest, IsPictureOrIs, IsPictureRun, IsPlain, IsQuoted, IsRun, is_next, is_paired, is_to_space}
+use Rattle.cob_lex.specs.Characters.{is_word_byte}
+use Rattle.cob_lex.specs.Fronts.{is_number, is_word, run_front}
+use Rattle.cob_lex.specs.Spelled.{IsLongest, IsPlain, IsRun, is_next}
 
 -- which way a test went
 pub chosen : {A : Type 0} (b : Bool) (x y z : A) → cond b x y ≡ z → ((b ≡ true) × (x ≡ z)) ⊎ ((b ≡ false) × (y ≡ z))

@@ -1,5 +1,5 @@
 -- A token at the front of bytes is the longest there.
-use Rattle.std.proofs.Common.{◌≡◌, ◌≢◌, ℕ, suc, ◌+◌, ◌-◌, ◌<◌, ◌≤◌, Bool, true, false, not, ◌&&◌, ◌||◌, ◌==◌, cond, nat_le, List, [], ◌∷◌, ◌++◌, length, take, drop, Option, Some, None, ◌⊎◌, inl, inr, refl, ap, sym, subst, ◌∙◌, arith, codes, length-append}
+use Rattle.std.proofs.Common.{◌≡◌, ◌≢◌, ℕ, ◌+◌, ◌≤◌, true, false, ◌&&◌, ◌==◌, cond, nat_le, List, [], ◌∷◌, length, take, drop, Option, Some, None, inl, inr, refl, ap, sym, subst, ◌∙◌, arith, codes, length-append}
 use Rattle.std.specs.List.{take_while}
 use Rattle.std.specs.Str.{bytes_eq}
 use Rattle.std.proofs.lemmas.Bool.{and_parts, eqb-true}
@@ -10,12 +10,11 @@ use Rattle.cob_lex.specs.declared.token.TokenKind.{TokenKind}
 use Rattle.cob_lex.specs.declared.token.TokenKind.TheVariants as tokens
 use Rattle.cob_lex.specs.declared.front.Awaited.{Awaited}
 use Rattle.cob_lex.specs.declared.front.Awaited.TheVariants as awaited
-use Rattle.cob_lex.specs.declared.front.Front.{Front}
 use Rattle.cob_lex.specs.declared.front.Front.TheVariants as fronts
 use Rattle.cob_lex.specs.Characters.{is_period, is_quote, is_spacing, is_word_byte, space_next}
 use Rattle.cob_lex.specs.Literals.{closing, is_literal}
 use Rattle.cob_lex.specs.Fronts.{front_of, is_awaited_is, is_number, is_picture_front, is_word, literal_front, picture_front, picture_run, plain_front, run_front, sign_front, sign_kind}
-use Rattle.cob_lex.specs.Spelled.{IsLongest, IsPicture, IsPictureOrIs, IsPictureRun, IsPlain}
+use Rattle.cob_lex.specs.Spelled.{IsLongest, IsPictureRun, IsPlain}
 use Rattle.cob_lex.proofs.Longest.{Fronts, Plainly, chosen, plainly_same, run_plainly, same_kind, same_size}
 use Rattle.cob_lex.proofs.LongestLiteral.{drop_before, literal_plainly, take_before}
 use Rattle.cob_lex.proofs.LongestPicture.{no_run, picture_splits}

@@ -1,5 +1,5 @@
 -- Where a literal ends, and that it is the longest.
-use Rattle.std.proofs.Common.{◌≡◌, ℕ, zero, suc, ◌+◌, ◌-◌, ◌<◌, ◌≤◌, Bool, true, false, not, ◌&&◌, cond, List, [], ◌∷◌, ◌++◌, length, take, drop, Option, Some, None, inl, inr, refl, ap, sym, subst, ◌∙◌, arith, append_assoc, length-append}
+use Rattle.std.proofs.Common.{◌≡◌, ℕ, suc, ◌+◌, true, false, not, ◌&&◌, cond, List, [], ◌∷◌, ◌++◌, length, take, drop, Option, Some, None, inl, inr, refl, ap, sym, ◌∙◌, arith, append_assoc, length-append}
 use Rattle.std.specs.Option.{option_map}
 use Rattle.std.proofs.lemmas.Bool.{eqb-true}
 use Rattle.cob_lex.specs.declared.fault.SourceKind.TheVariants as faults
@@ -9,7 +9,7 @@ use Rattle.cob_lex.specs.declared.front.Front.TheVariants as fronts
 use Rattle.cob_lex.specs.Characters.{is_quote}
 use Rattle.cob_lex.specs.Literals.{closing, is_literal}
 use Rattle.cob_lex.specs.Fronts.{literal_front}
-use Rattle.cob_lex.specs.Spelled.{IsQuoted, is_next, is_paired}
+use Rattle.cob_lex.specs.Spelled.{is_next, is_paired}
 use Rattle.cob_lex.proofs.Longest.{Plainly, chosen, plainly_same}
 
 pub take_before : (a b : List ℕ) → take (length a) (a ++ b) ≡ a

@@ -1,11 +1,11 @@
 -- The run of a picture, and that it is the longest.
-use Rattle.std.proofs.Common.{◌≡◌, ℕ, zero, suc, ◌+◌, ◌-◌, ◌<◌, ◌≤◌, Bool, true, false, not, ◌&&◌, ◌||◌, cond, nat_le, List, [], ◌∷◌, ◌++◌, length, take, drop, slice_index, ◌⊎◌, inl, inr, refl, ap, sym, ◌∙◌, arith, append_assoc, length-append}
+use Rattle.std.proofs.Common.{◌≡◌, ℕ, zero, suc, ◌-◌, Bool, true, false, not, ◌&&◌, ◌||◌, cond, List, [], ◌∷◌, ◌++◌, length, take, drop, slice_index, ◌⊎◌, inl, inr, refl, ap, sym, ◌∙◌, arith, append_assoc}
 use Rattle.std.specs.List.{list_all, prefix_len, take_while}
-use Rattle.std.proofs.lemmas.Bool.{and_parts, or_parts, eqb-true}
+use Rattle.std.proofs.lemmas.Bool.{and_parts}
 use Rattle.std.proofs.lemmas.Bool.Decides.{nat_tests}
 use Rattle.std.proofs.lemmas.List.{take-append-drop}
-use Rattle.std.proofs.lemmas.List.Folds.{length-prefix_len, list_all-append}
-use Rattle.cob_lex.specs.Characters.{is_comma, is_no_space, is_period, is_separator, is_space, is_spacing, space_next, without_last}
+use Rattle.std.proofs.lemmas.List.Folds.{list_all-append}
+use Rattle.cob_lex.specs.Characters.{is_comma, is_no_space, is_period, is_separator, is_space, is_spacing, space_next}
 use Rattle.cob_lex.specs.Fronts.{picture_run}
 use Rattle.cob_lex.specs.Spelled.{IsPictureRun, is_next, is_to_space}
 use Rattle.cob_lex.proofs.Longest.{chosen, run_ends, run_passes}

@@ -11,7 +11,7 @@ use Rattle.cob_lex.specs.declared.lines.Place.{Place}
 use Rattle.cob_lex.specs.declared.front.Awaited.{Awaited}
 use Rattle.cob_lex.specs.declared.front.Front.TheVariants as fronts
 use Rattle.cob_lex.specs.Fronts.{front_of}
-use Rattle.cob_lex.specs.Lexing.{Taken, taken, lines_tokens, tokens_of, line_tokens, token_of, ◌>>=◌}
+use Rattle.cob_lex.specs.Lexing.{Taken, taken, lines_tokens, line_tokens, token_of, ◌>>=◌}
 use Rattle.cob_lex.specs.declared.lines.LineKind.{LineKind}
 use Rattle.cob_lex.specs.Characters.{is_line_feed}
 use Rattle.cob_lex.specs.Lines.{IsFirstLine, Line, line_at, line_kind, paragraph_behind, place, placed, with_kinds}

@@ -6,7 +6,6 @@ use Rattle.std.proofs.lemmas.List.{length-drop, length-take, take-append-drop, d
 use Rattle.std.proofs.lemmas.List.Elements.{All-append, All-cons}
 use Rattle.std.proofs.lemmas.List.Splits.{join_with_byte-slice_split}
 use Rattle.cob_lex.specs.declared.token.Token.{Token}
-use Rattle.cob_lex.specs.declared.token.TokenKind.{TokenKind}
 use Rattle.cob_lex.specs.declared.lines.Place.{Place}
 use Rattle.cob_lex.specs.declared.lines.LineKind.{LineKind}
 use Rattle.cob_lex.specs.declared.lines.LineKind.TheVariants as kinds
@@ -14,8 +13,8 @@ use Rattle.cob_lex.specs.declared.front.Awaited.{Awaited}
 use Rattle.cob_lex.specs.declared.front.Awaited.TheVariants as awaited
 use Rattle.cob_lex.specs.Characters.{is_line_feed, is_return, without_last}
 use Rattle.cob_lex.specs.Lines.{Line, line_kind, paragraph_behind, place, placed, source_lines, text_of, with_kinds}
-use Rattle.cob_lex.specs.Lexing.{token_at, tokens_of}
-use Rattle.cob_lex.specs.Spelled.{AreBetween, AreLines, AreTokens, IsLine, IsSlice, IsSpelled, IsTokenAt, after_line, after_spacing, after_token, ends, no_line}
+use Rattle.cob_lex.specs.Lexing.{tokens_of}
+use Rattle.cob_lex.specs.Spelled.{AreBetween, AreLines, AreTokens, IsLine, IsSlice, IsSpelled, after_line, after_spacing, after_token, ends, no_line}
 use Rattle.cob_lex.proofs.Longest.{chosen}
 use Rattle.cob_lex.proofs.LongestLiteral.{drop_before, take_before}
 use Rattle.cob_lex.proofs.SpelledTokens.{lines_spelled}
@@ -133,18 +132,18 @@ line_slices source in_paragraph kinds.Text awaits next number start bytes tokens
     record { between = between_to start _ _ tokens high (between_from start _ _ tokens low text.between); slices = text.slices }
 
 -- the first line and the others
-record First (awaits : Awaited) (line : Line) (lines : List Line) (tokens : List Token) : Type 0 where
-  next : Awaited
-  here : List Token
-  others : List Token
-  all : tokens ≡ here ++ others
-  first : IsLine line.kind awaits line.place line.bytes here next
-  behind : AreLines next lines others
+pub record First (awaits : Awaited) (line : Line) (lines : List Line) (tokens : List Token) : Type 0 where
+  pub next : Awaited
+  pub here : List Token
+  pub others : List Token
+  pub all : tokens ≡ here ++ others
+  pub first : IsLine line.kind awaits line.place line.bytes here next
+  pub behind : AreLines next lines others
 
-first_of : {awaits : Awaited} {line : Line} {lines : List Line} {tokens : List Token} → AreLines awaits (line ∷ lines) tokens → First awaits line lines tokens
+pub first_of : {awaits : Awaited} {line : Line} {lines : List Line} {tokens : List Token} → AreLines awaits (line ∷ lines) tokens → First awaits line lines tokens
 first_of (after_line {next = next} here others all first behind) = record { next = next; here = here; others = others; all = all; first = first; behind = behind }
 
-none_of : {awaits : Awaited} {tokens : List Token} → AreLines awaits [] tokens → tokens ≡ []
+pub none_of : {awaits : Awaited} {tokens : List Token} → AreLines awaits [] tokens → tokens ≡ []
 none_of no_line = refl
 
 shorter : (test : ℕ → Bool) (part : List ℕ) → (more : List ℕ) × (part ≡ without_last test part ++ more)
@@ -201,4 +200,4 @@ tokens_spelled source tokens h =
     let all = lines_slices source false awaited.Nothing 1 0 parts tokens spelled stands in
     let size : length (joined parts) ≡ length source = ap length whole in
     let high : 0 + length (joined parts) ≤ length source = omega arith in
-    record { spelled = spelled; in_order = between_to 0 _ (length source) tokens high all.between; slices = all.slices }
+    record { spelled = spelled; between = between_to 0 _ (length source) tokens high all.between; slices = all.slices }

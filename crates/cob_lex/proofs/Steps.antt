@@ -1,5 +1,5 @@
 -- The tokens of a text, by what stands at its front.
-use Rattle.std.proofs.Common.{◌≡◌, ℕ, zero, suc, ◌+◌, ◌-◌, ◌<◌, ◌≤◌, List, [], ◌∷◌, ◌++◌, length, take, drop, Result, Ok, Err, refl, ap, sym, ◌∙◌, arith, append_assoc, append-nil}
+use Rattle.std.proofs.Common.{◌≡◌, ℕ, zero, suc, ◌+◌, ◌-◌, ◌≤◌, List, [], ◌∷◌, ◌++◌, length, take, drop, Result, Ok, Err, refl, ap, sym, ◌∙◌, arith, append_assoc, append-nil}
 use Rattle.cob_lex.specs.declared.fault.SourceFault.{SourceFault}
 use Rattle.cob_lex.specs.declared.fault.SourceKind.{SourceKind}
 use Rattle.cob_lex.specs.declared.token.Token.{Token}

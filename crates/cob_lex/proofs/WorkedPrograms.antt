@@ -1,5 +1,5 @@
 -- The tokens of whole programs.
-use Rattle.std.proofs.Common.{◌≡◌, ℕ, List, [], ◌∷◌, ◌++◌, Ok, refl, codes}
+use Rattle.std.proofs.Common.{◌≡◌, List, [], ◌∷◌, ◌++◌, Ok, refl, codes}
 use Rattle.cob_lex.specs.declared.token.Token.{Token}
 use Rattle.cob_lex.specs.Fronts.{front_of}
 use Rattle.cob_lex.specs.Lexing.{tokens_of, lines_tokens, text_tokens}

@@ -1,5 +1,5 @@
 -- Worked sources: what each has, worked out by hand.
-use Rattle.std.proofs.Common.{◌≡◌, ℕ, List, [], ◌∷◌, ◌++◌, Ok, Err, refl, codes}
+use Rattle.std.proofs.Common.{◌≡◌, [], ◌∷◌, ◌++◌, Ok, Err, refl, codes}
 use Rattle.cob_lex.specs.declared.fault.SourceKind.TheVariants as faults
 use Rattle.cob_lex.specs.Fronts.{front_of}
 use Rattle.cob_lex.specs.Lexing.{tokens_of, lines_tokens, text_tokens}

@@ -5,3 +5,4 @@ pub mod Fronts
 pub mod Lexing
 pub mod Answers
 pub mod Spelled
+pub mod Order

@@ -132,5 +132,5 @@ IsSlice source token = slice_range source token.start token.past ≡ token.text
 -- the tokens of a source
 pub record AreTokens (source : List ℕ) (tokens : List Token) : Type 0 where
   pub spelled : AreLines awaited.Nothing (source_lines source) tokens
-  pub in_order : AreBetween 0 tokens (length source)
+  pub between : AreBetween 0 tokens (length source)
   pub slices : All (IsSlice source) tokens

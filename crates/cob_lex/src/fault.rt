@@ -3,8 +3,8 @@ use std::alloc::{AllocError, AllocFailed};
 use thiserror::Error;
 
 /// The kinds of fault of a source, in the order in which they are told where two stand at one place.
-/// `lex` answers `BadCharacter`, `BadColumn` and `BadWord`; the others are for the readers of
-/// divisions.
+/// `lex` answers `BadCharacter`, `BadColumn` and `BadWord`, and the readers of divisions `BadColumn` and the
+/// others but `UnknownName`, `LeavesRange` and `PerformsItself`, which no code answers yet.
 #[derive(Clone, Copy, Debug, PartialEq, Eq)]
 pub enum SourceKind {
     /// A character that may not stand there, or a literal without its closing quotation mark.
@@ -45,7 +45,7 @@ pub struct SourceFault {
 }
 
 /// Why a source was not read.
-#[derive(Debug, Drop, Error)]
+#[derive(Clone, Copy, Debug, Error)]
 pub enum SourceError {
     /// The source has this fault.
     #[error("line {} column {}: {:?}", .0.line, .0.column, .0.kind)]
@@ -53,6 +53,17 @@ pub enum SourceError {
     /// Memory ran out.
     #[error("memory ran out")]
     Memory(AllocError),
+}
+
+impl From<AllocError> for SourceError {
+    ghost use Rattle.std.specs.Prelude.{◌≡◌};
+    ghost use Rattle.cob_lex.specs.declared.fault.SourceError.TheVariants.{Memory};
+
+    ghost from_gives = { λ error gives. gives ≡ Memory error };
+
+    fn from(error: AllocError) -> SourceError {
+        SourceError::Memory(error)
+    }
 }
 
 impl<T: Drop> From<AllocFailed<T>> for SourceError {

@@ -3,6 +3,7 @@ ghost use Rattle.std.specs.Prelude.{◌≡◌, ◌+◌, ◌≤◌, IfErr, IfOk, 
 ghost use Rattle.cob_lex.specs.Lexing.{fault_at, line_tokens, taken, text_tokens, token_of, tokens_of};
 ghost use Rattle.cob_lex.specs.Lines.{text_of};
 ghost use Rattle.cob_lex.specs.Answers.{IsRefusal, with_front};
+ghost use Rattle.cob_lex.specs.Order.{AreInOrder};
 ghost use Rattle.cob_lex.specs.Spelled.{AreTokens};
 
 use crate::front::{Awaited, Front, awaited_behind, front_of};
@@ -16,12 +17,12 @@ use std::alloc::Global;
 /// How many bytes a source has at most.
 pub const MAX_SOURCE: usize = 1_048_576;
 
-/// The tokens of a source of at most [`MAX_SOURCE`] bytes, or its first fault. Memory where memory
-/// ran out.
+/// The tokens of a source of at most [`MAX_SOURCE`] bytes, or its first fault. Memory: memory ran out.
 pub fn lex(alloc: Global, bytes: &[u8]) -> Result<Rows<Token>, SourceError>
     requires { length bytes.now ≤ MAX_SOURCE }
     ensures tokens { IfOk result (λ tokens. tokens_of bytes.now ≡ Ok tokens) }
     ensures spelled { IfOk result (λ tokens. AreTokens bytes.now tokens) }
+    ensures in_order { IfOk result (λ tokens. AreInOrder tokens) }
     ensures fault { IfErr result (λ error. IsRefusal error (tokens_of bytes.now)) }
 {
     let mut tokens = Vec::new(alloc);

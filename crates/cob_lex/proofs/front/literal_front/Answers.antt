@@ -1,4 +1,4 @@
-use Rattle.std.proofs.Common.{◌≡◌, ℕ, ◌≤◌, sym, arith}
+use Rattle.std.proofs.Common.{◌≤◌, sym, arith}
 use Rattle.cob_lex.proofs.LiteralSizes.{literal_there}
 use Rattle.cob_lex.proofs.front.literal_front.Goals as goal
 

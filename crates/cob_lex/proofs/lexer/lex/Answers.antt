@@ -1,7 +1,8 @@
-use Rattle.std.proofs.Common.{◌≡◌, ◌+◌, ◌≤◌, length, arith, rules}
+use Rattle.std.proofs.Common.{◌≡◌, length, arith, rules}
 use Rattle.std.proofs.lemmas.Bool.{eqb-true}
 use Rattle.cob_lex.proofs.Refusals.{first_refused, first_taken, left_length, lines_end, tail_slice}
 use Rattle.cob_lex.proofs.SpelledPlaces.{tokens_spelled}
+use Rattle.cob_lex.proofs.SpelledOrder.{tokens_in_order}
 use Rattle.cob_lex.proofs.lexer.lex.Goals as goal
 
 pub returns-in_err-awaited-clause-fault : goal.returns-in_err-awaited-clause-fault
@@ -33,3 +34,8 @@ pub returns-clause-spelled : goal.returns-clause-spelled
 returns-clause-spelled c =
     let none : length c.lines.rest.now ≡ 0 = eqb-true _ _ cc in
     rw c.of_vec.ensures (tokens_spelled c.args.bytes.now c.lines.tokens.items (lines_end c.lines.tokens.items c.lines.awaited c.lines.in_paragraph c.lines.place c.lines.rest.now _ none c.lines.invariant.same))
+
+pub returns-clause-in_order : goal.returns-clause-in_order
+returns-clause-in_order c =
+    let none : length c.lines.rest.now ≡ 0 = eqb-true _ _ cc in
+    rw c.of_vec.ensures (tokens_in_order c.args.bytes.now c.lines.tokens.items (lines_end c.lines.tokens.items c.lines.awaited c.lines.in_paragraph c.lines.place c.lines.rest.now _ none c.lines.invariant.same))

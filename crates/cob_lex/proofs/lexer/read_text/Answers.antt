@@ -1,4 +1,4 @@
-use Rattle.std.proofs.Common.{◌≡◌, length, sym}
+use Rattle.std.proofs.Common.{◌≡◌, length}
 use Rattle.std.proofs.lemmas.Bool.{eqb-true}
 use Rattle.cob_lex.proofs.Steps.{text_ends}
 use Rattle.cob_lex.proofs.lexer.read_text.Goals as goal

@@ -1,4 +1,4 @@
-use Rattle.std.proofs.Common.{◌≡◌, ℕ, ◌+◌, ◌<◌, ◌≤◌, length, Fits, w64, Err, ap, arith}
+use Rattle.std.proofs.Common.{Err, ap, arith}
 use Rattle.com_text.specs.Text.{IsFirstBadByte}
 use Rattle.cob_lex.specs.Lexing.{sound_token}
 use Rattle.cob_lex.proofs.BadBytes.{bad_byte, sound_bytes}

@@ -1,6 +1,6 @@
-use Rattle.std.proofs.Common.{◌≡◌, ℕ, ◌+◌, ◌++◌, [], ◌∷◌, take, drop, ap, sym, ◌∙◌, rules}
-use Rattle.cob_lex.specs.Answers.{IsRefusal, with_front}
-use Rattle.cob_lex.proofs.Steps.{fronted, spacing, refused, token_taken, with_front-with_front}
+use Rattle.std.proofs.Common.{[], ◌∷◌, ap, sym, ◌∙◌, rules}
+use Rattle.cob_lex.specs.Answers.{with_front}
+use Rattle.cob_lex.proofs.Steps.{spacing, refused, token_taken, with_front-with_front}
 use Rattle.cob_lex.proofs.Refusals.{of_token}
 use Rattle.cob_lex.proofs.lexer.take_front.Goals as goal
 

@@ -1,4 +1,4 @@
-use Rattle.std.proofs.Common.{◌≡◌, ℕ, ◌==◌, Some, None, tests, rules}
+use Rattle.std.proofs.Common.{◌==◌, Some, None, tests, rules}
 use Rattle.std.proofs.lemmas.Iterator.{YieldsList-from_slice}
 use Rattle.std.proofs.lemmas.Iterator.Search.{position_from_yields_List}
 use Rattle.cob_lex.proofs.FirstLines.{ended_first, whole_first}
