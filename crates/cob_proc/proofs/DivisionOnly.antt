@@ -12,7 +12,7 @@ use Rattle.cob_forms.specs.Spelling.{word, all_of, some_of}
 use Rattle.cob_proc.specs.declared.tree.Condition.{Condition}
 use Rattle.cob_proc.specs.declared.tree.Identifier.{Identifier}
 use Rattle.cob_proc.specs.Forms as forms
-use Rattle.cob_proc.specs.Forms.{rows_of, period, inner_rows, statement_rows}
+use Rattle.cob_proc.specs.Forms.{alternatives_of, period, inner_alternatives, statement_alternatives}
 use Rattle.cob_proc.specs.Spelled.{begins_form, IsInner, AreInner, IsNoData, IsReceive, IsStatement, AreStatements, AreFurther, IsElse, IsSentence, IsParagraph, IsProcedure}
 use Rattle.cob_proc.specs.Trees.{Tree, plain, branches, receives, Block, none, lead, block_of, ParagraphTree}
 use Rattle.cob_proc.specs.DivisionReaders as division
@@ -59,7 +59,7 @@ inner_ok (receives cd segment into none) ts rest h = rw (head_next cd segment in
 inner_ok (receives cd segment into (lead t others)) ts rest h = absurd h
 
 inner_list : (b : Block) (ts rest : List Token) → AreInner b ts rest → all_of (begins_form forms.inner) IsInner (list_of b) ts rest × (begins (is (reserved (codes "IF"))) rest ≡ false)
-inner_list none ts rest h = let n = starts_none statement_rows rest h.1 in ((h.0, none_starts inner_rows rest n.1), n.0)
+inner_list none ts rest h = let n = starts_none statement_alternatives rest h.1 in ((h.0, none_starts inner_alternatives rest n.1), n.0)
 inner_list (lead t others) ts rest h = let k = inner_list others h.0 rest h.2 in ((h.0, h.1, k.0), k.1)
 
 inners_ok : (xs : List Tree) (ts rest : List Token) → some_of (begins_form forms.inner) IsInner xs ts rest → division.inners ts ≡ Ok (xs, rest)
@@ -69,7 +69,7 @@ inners_ok xs ts rest h = some_ok (begins_form forms.inner) division.inner IsInne
 no_data_ok : (b : Block) (ts rest : List Token) → IsNoData b ts rest → division.no_data ts ≡ Ok (list_of b, rest)
 unfolding division.no_data
 no_data_ok none ts rest u =
-    let n = starts_none (rows_of forms.no_data) rest u.1 in
+    let n = starts_none (alternatives_of forms.no_data) rest u.1 in
     let b : begins (is (reserved (codes "NO"))) ts ≡ false = rw (← u.0) n.0 in
     rw b (ap (λ r. Ok ([], r)) (sym u.0))
 no_data_ok (lead t others) ts rest (m, w, (m2, d, (m3, i, k))) =
@@ -90,12 +90,12 @@ statements_list none ts rest h = absurd h
 statements_list (lead t others) ts rest h = (h.0, h.1, further_list others h.0 rest h.2)
 
 -- IF, over its statements
-module _ (n : ℕ) (statements : Reader (List Tree)) (follows : Follows n rows_of statements (form forms.statement ∷ more forms.statement ∷ []))
+module _ (n : ℕ) (statements : Reader (List Tree)) (follows : Follows n alternatives_of statements (form forms.statement ∷ more forms.statement ∷ []))
     (ok : (b : Block) (ts rest : List Token) → length ts ≤ n → AreStatements b ts rest → statements ts ≡ Ok (list_of b, rest)) where
   else_ok : (b : Block) (ts rest : List Token) → length ts ≤ n → IsElse b ts rest → division.otherwise statements ts ≡ Ok (list_of b, rest)
   unfolding division.otherwise
   else_ok none ts rest le u =
-      let n = starts_none (rows_of forms.otherwise) rest u.1 in
+      let n = starts_none (alternatives_of forms.otherwise) rest u.1 in
       let b : begins (is (reserved (codes "ELSE"))) ts ≡ false = rw (← u.0) n.0 in
       rw b (ap (λ r. Ok ([], r)) (sym u.0))
   else_ok (lead t others) ts rest le (m, w, k) =
@@ -128,7 +128,7 @@ statement_ok zero t ts rest le h = let some : 0 < length ts = takes_one t ts res
 statement_ok (suc n) (plain s) ts rest le h = rw ((no_if s ts rest h).0, (no_if s ts rest h).1, plain_ok s ts rest h) refl
 statement_ok (suc n) (branches position c holds others) ts rest le h =
     rw (is_next (reserved (codes "IF")) h.1.0 ts h.0 h.1.2)
-    (branch_ok n _ (is_list rows_of forms.statement (division.read_statement n) n (opens_statement n)) (blocks_ok n (statement_ok n)) position c holds others ts rest le h)
+    (branch_ok n _ (is_list alternatives_of forms.statement (division.read_statement n) n (opens_statement n)) (blocks_ok n (statement_ok n)) position c holds others ts rest le h)
 statement_ok (suc n) (receives cd segment into b) ts rest le h =
     rw (head_no_if cd segment into ts h.0 h.1, head_next cd segment into ts h.0 h.1) (receive_ok cd segment into b ts rest h)
 

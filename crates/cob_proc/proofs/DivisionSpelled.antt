@@ -11,7 +11,7 @@ use Rattle.cob_forms.specs.Forms.{form, more}
 use Rattle.cob_forms.specs.Spelling.{Spelling, ◌⊙◌, a, word, all_of, some_of}
 use Rattle.cob_proc.specs.declared.tree.Identifier.{Identifier}
 use Rattle.cob_proc.specs.Forms as forms
-use Rattle.cob_proc.specs.Forms.{rows_of, period, inner_rows, statement_rows}
+use Rattle.cob_proc.specs.Forms.{alternatives_of, period, inner_alternatives, statement_alternatives}
 use Rattle.cob_proc.specs.Spelled.{begins_form, IsInner, AreInner, IsNoData, IsReceive, IsStatement, AreStatements, AreFurther, IsElse, IsSentence, IsParagraph, IsProcedure}
 use Rattle.cob_proc.specs.Trees.{Tree, plain, branches, receives, Block, none, lead, block_of, ParagraphTree}
 use Rattle.cob_proc.specs.DivisionReaders as division
@@ -48,7 +48,7 @@ unfolding division.inners
 inners_found ts = some_found (begins_form forms.inner) division.inner IsInner (length ts) (λ u _. inner_found u) (shorter opens_inner) ts (omega arith)
 
 inner_block : (xs : List Tree) (ts rest : List Token) → all_of (begins_form forms.inner) IsInner xs ts rest → begins (is (reserved (codes "IF"))) rest ≡ false → AreInner (block_of xs) ts rest
-inner_block [] ts rest h b = (h.0, none_starts statement_rows rest (b, starts_none inner_rows rest h.1))
+inner_block [] ts rest h b = (h.0, none_starts statement_alternatives rest (b, starts_none inner_alternatives rest h.1))
 inner_block (x ∷ xs) ts rest h b = (h.0, h.1, inner_block xs h.0 rest h.2 b)
 
 no_data_block : (xs : List Tree) (ts m m2 rest : List Token) → word (codes "NO") ts m → word (codes "DATA") m m2 → some_of (begins_form forms.inner) IsInner xs m2 rest → begins (is (reserved (codes "IF"))) rest ≡ false → IsNoData (block_of xs) ts rest
@@ -61,7 +61,7 @@ no_data_found ts = by_test (begins (is (reserved (codes "NO"))) ts)
     (λ _. step (word_found (reserved (codes "NO")) ts) (λ _ m h. step (word_found (reserved (codes "DATA")) m) (λ _ m2 h2. step (inners_found m2) (λ xs m3 k. by_test (begins (is (reserved (codes "IF"))) m3)
     (λ _. nowhere_found m3)
     (λ b. end (λ xs rest. IsNoData (block_of xs) ts rest) xs m3 (no_data_block xs ts m m2 m3 h h2 k b))))))
-    (λ b. end (λ xs rest. IsNoData (block_of xs) ts rest) [] ts (refl, none_starts (rows_of forms.no_data) ts (b, tt)))
+    (λ b. end (λ xs rest. IsNoData (block_of xs) ts rest) [] ts (refl, none_starts (alternatives_of forms.no_data) ts (b, tt)))
 
 receive_found : (ts : List Token) → Finds (division.receive ts) (λ t rest. IsStatement t ts rest)
 unfolding division.receive
@@ -81,14 +81,14 @@ else_block none ts m rest w h = absurd h
 else_block (lead t others) ts m rest w h = (m, w, h)
 
 -- IF, over its statements
-module _ (n : ℕ) (statements : Reader (List Tree)) (follows : Follows n rows_of statements (form forms.statement ∷ more forms.statement ∷ []))
+module _ (n : ℕ) (statements : Reader (List Tree)) (follows : Follows n alternatives_of statements (form forms.statement ∷ more forms.statement ∷ []))
     (sound : (ts : List Token) → length ts ≤ n → Finds (statements ts) (λ xs rest. AreStatements (block_of xs) ts rest)) where
   else_found : (ts : List Token) → length ts ≤ n → Finds (division.otherwise statements ts) (λ xs rest. IsElse (block_of xs) ts rest)
   unfolding division.otherwise
   else_found ts le = by_test (begins (is (reserved (codes "ELSE"))) ts)
       (λ _. step (one (reserved (codes "ELSE")) ts) (λ w m h. let e : length ts ≡ suc (length m) = ap length h.1 in
       weaker (sound m (omega (arith, e, le))) (λ xs rest k. else_block (block_of xs) ts m rest (w, h) k)))
-      (λ b. end (λ xs rest. IsElse (block_of xs) ts rest) [] ts (refl, none_starts (rows_of forms.otherwise) ts (b, tt)))
+      (λ b. end (λ xs rest. IsElse (block_of xs) ts rest) [] ts (refl, none_starts (alternatives_of forms.otherwise) ts (b, tt)))
 
   branch_found : (ts : List Token) → length ts ≤ suc n → Finds (division.branch statements ts) (λ t rest. IsStatement t ts rest)
   unfolding division.branch
@@ -106,7 +106,7 @@ pub statement_found : (n : ℕ) (ts : List Token) → length ts ≤ n → Finds 
 unfolding division.read_statement
 statement_found zero ts le = nowhere_found ts
 statement_found (suc n) ts le =
-    one_of_two _ (branch_found n _ (is_list rows_of forms.statement (division.read_statement n) n (opens_statement n)) (blocks_found n (statement_found n)) ts le)
+    one_of_two _ (branch_found n _ (is_list alternatives_of forms.statement (division.read_statement n) n (opens_statement n)) (blocks_found n (statement_found n)) ts le)
     (one_of_two _ (receive_found ts) (step (plain_found ts) (λ s m h. end (λ t rest. IsStatement t ts rest) (plain s) m h)))
 
 statements_found : (n : ℕ) (ts : List Token) → length ts ≤ n → Finds (division.read_statements n ts) (λ xs rest. AreStatements (block_of xs) ts rest)

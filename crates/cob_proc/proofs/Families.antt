@@ -9,7 +9,9 @@ use Rattle.cob_lex.specs.declared.token.Token.{Token}
 use Rattle.cob_forms.specs.Faults.{earlier, fault, first, noted}
 use Rattle.std.proofs.lemmas.List.{drop_all, drop_more}
 use Rattle.cob_forms.proofs.Order.{first-append, grouped}
-use Rattle.cob_proc.specs.Faults.{MAX_IFS, MAX_PARAGRAPHS, bad_columns, column_behind, deep_ifs, in_area_a, name_behind, named_again, names_paragraph, paragraph_names, read_faults, too_many, without_identifier}
+use Rattle.cob_proc.specs.declared.limits.TheConstants.{MAX_IFS, MAX_PARAGRAPHS}
+use Rattle.cob_forms.specs.Sorts.{in_area_a}
+use Rattle.cob_proc.specs.Faults.{bad_columns, column_behind, deep_ifs, name_behind, named_again, names_paragraph, paragraph_names, read_faults, too_many, without_identifier}
 
 -- what is found so far, and what one token more and those behind it have
 pub one_more : (found : Option SourceFault) (here others : List SourceFault) → earlier (earlier found (first here)) (first others) ≡ earlier found (first (here ++ others))
@@ -76,11 +78,11 @@ texts_more : (texts : List (List ℕ)) (front : List (Bor Token)) (x : Bor Token
 texts_more texts [] x = refl
 texts_more texts (y ∷ ys) x = texts_more (y.now.text ∷ texts) ys x
 
-take_front : {A : Type 0} (xs ys : List A) → take (length xs) (xs ++ ys) ≡ xs
+pub take_front : {A : Type 0} (xs ys : List A) → take (length xs) (xs ++ ys) ≡ xs
 take_front [] ys = refl
 take_front (x ∷ xs) ys = ap (λ zs. x ∷ zs) (take_front xs ys)
 
-length_more : (xs : List (Bor Token)) (x : Bor Token) → length (xs ++ x ∷ []) ≡ length xs + 1
+pub length_more : {A : Type 0} (xs : List A) (x : A) → length (xs ++ x ∷ []) ≡ length xs + 1
 length_more [] x = refl
 length_more (y ∷ ys) x = let more : length (ys ++ x ∷ []) ≡ length ys + 1 = length_more ys x in omega (arith, more)
 

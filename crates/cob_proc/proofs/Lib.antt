@@ -8,6 +8,12 @@ pub mod PartsOnly
 pub mod StatementsOnly
 pub mod DivisionSpelled
 pub mod DivisionOnly
+pub mod Cuts
+pub mod CutFault
+pub mod LimitPlaces
 pub mod Pass
 pub mod WorkedSources
 pub mod WorkedFaults
+mod WorkedComments
+mod WorkedLimits
+mod WorkedWords

@@ -25,7 +25,7 @@ use Rattle.cob_proc.specs.declared.tree.Simple.TheVariants as simples
 use Rattle.cob_proc.specs.declared.tree.Subscript.{Subscript}
 use Rattle.cob_proc.specs.declared.tree.Subscript.TheVariants as subscripts
 use Rattle.cob_proc.specs.Forms as forms
-use Rattle.cob_proc.specs.Forms.{rows_of}
+use Rattle.cob_proc.specs.Forms.{alternatives_of}
 use Rattle.cob_proc.specs.Spelled.{begins_form, open_sign, close_sign, IsSubscript, IsIdentifier, IsOperand, IsAddend, IsKey, IsRelation, is_denied, IsSimple, IsCondition}
 use Rattle.cob_proc.specs.PartReaders as parts
 use Rattle.cob_forms.proofs.Agreement.{shorter}
@@ -224,7 +224,7 @@ parts_ok : (joint : Joint) (xs : List Simple) (ts rest : List Token) → IsCondi
 unfolding parts.condition
 parts_ok joints.Alone [] ts rest h = absurd h
 parts_ok joints.Alone (x ∷ []) ts rest (m, h, u) =
-    let none = starts_none (rows_of forms.joined) rest u.1 in
+    let none = starts_none (alternatives_of forms.joined) rest u.1 in
     let a : begins (is (reserved (codes "AND"))) m ≡ false = rw (← u.0) none.0 in
     let b : begins (is (reserved (codes "OR"))) m ≡ false = rw (← u.0) none.1.0 in
     rw (simple_ok x ts m h, a, b) (ap (λ r. Ok (record { joint = joints.Alone; parts = x ∷ [] }, r)) (sym u.0))

@@ -19,7 +19,7 @@ use Rattle.cob_proc.specs.declared.tree.Simple.TheVariants as simples
 use Rattle.cob_proc.specs.declared.tree.Subscript.{Subscript}
 use Rattle.cob_proc.specs.declared.tree.Subscript.TheVariants as subscripts
 use Rattle.cob_proc.specs.Forms as forms
-use Rattle.cob_proc.specs.Forms.{rows_of}
+use Rattle.cob_proc.specs.Forms.{alternatives_of}
 use Rattle.cob_proc.specs.Spelled.{begins_form, open_sign, close_sign, IsSubscript, IsIdentifier, IsOperand, IsAddend, IsKey, IsRelation, IsSimple, IsCondition}
 use Rattle.cob_proc.specs.PartReaders as parts
 use Rattle.cob_forms.proofs.Agreement.{shorter}
@@ -149,4 +149,4 @@ unfolding parts.condition
 condition_found ts = step (simple_found ts) (λ first m h.
     by_test (begins (is (reserved (codes "AND"))) m) (λ b. step (joined_found (codes "AND") first m b) (λ xs m2 k. end (λ c rest. IsCondition c ts rest) (record { joint = joints.And; parts = xs }) m2 (rw (k.1) (m, h, k.2))))
     (λ b. by_test (begins (is (reserved (codes "OR"))) m) (λ c. step (joined_found (codes "OR") first m c) (λ xs m2 k. end (λ c rest. IsCondition c ts rest) (record { joint = joints.Or; parts = xs }) m2 (rw (k.1) (m, h, k.2))))
-    (λ c. end (λ c rest. IsCondition c ts rest) (record { joint = joints.Alone; parts = first ∷ [] }) m (m, h, (refl, none_starts (rows_of forms.joined) m (b, (c, tt)))))))
+    (λ c. end (λ c rest. IsCondition c ts rest) (record { joint = joints.Alone; parts = first ∷ [] }) m (m, h, (refl, none_starts (alternatives_of forms.joined) m (b, (c, tt)))))))

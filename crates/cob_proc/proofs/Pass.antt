@@ -4,7 +4,7 @@ use Rattle.cob_lex.specs.declared.token.Token.{Token}
 use Rattle.cob_forms.specs.Forms.{ends, wanted, reading}
 use Rattle.cob_forms.specs.Faults.{first}
 use Rattle.cob_proc.specs.Faults.{faults_by, procedure_fault, read_faults}
-use Rattle.cob_proc.specs.Forms.{procedure_division, rows_of}
+use Rattle.cob_proc.specs.Forms.{procedure_division, alternatives_of}
 use Rattle.cob_proc.specs.Trees.{ParagraphTree}
 use Rattle.cob_proc.specs.DivisionReaders.{read_procedure}
 use Rattle.cob_proc.proofs.DivisionAgrees.{ended, procedure_agrees}
@@ -20,13 +20,13 @@ ended_faults ts = let all : length ts - 0 ≡ length ts = omega arith in ap read
 -- where all is read
 pub read_fault : (ts : List Token) (trees : List ParagraphTree) → read_procedure ts ≡ Ok trees → procedure_fault ts ≡ first (read_faults ts)
 read_fault ts trees e =
-    let same : reading rows_of procedure_division ts ≡ ends [] = procedure_agrees ts ∙ ap ended e in
+    let same : reading alternatives_of procedure_division ts ≡ ends [] = procedure_agrees ts ∙ ap ended e in
     ap (λ read. first (faults_by ts read)) same ∙ ap first (ended_faults ts)
 
 -- where reading stops
 pub stop_fault : (ts : List Token) (left : ℕ) → read_procedure ts ≡ Err left → procedure_fault ts ≡ first (faults_by ts (wanted left))
 stop_fault ts left e =
-    let same : reading rows_of procedure_division ts ≡ wanted left = procedure_agrees ts ∙ ap ended e in
+    let same : reading alternatives_of procedure_division ts ≡ wanted left = procedure_agrees ts ∙ ap ended e in
     ap (λ read. first (faults_by ts read)) same
 
 pub ruleset pass_steps = (read_fault, stop_fault, procedure_spelled)

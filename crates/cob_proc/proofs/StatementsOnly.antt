@@ -20,7 +20,7 @@ use Rattle.cob_proc.specs.declared.tree.Operand.{Operand}
 use Rattle.cob_proc.specs.declared.tree.Repetition.{Repetition}
 use Rattle.cob_proc.specs.declared.tree.Repetition.TheVariants as repetitions
 use Rattle.cob_proc.specs.Forms as forms
-use Rattle.cob_proc.specs.Forms.{rows_of}
+use Rattle.cob_proc.specs.Forms.{alternatives_of}
 use Rattle.cob_proc.specs.Spelled.{begins_form, IsThrough, IsRepetition, IsIndicator, line_or_lines, IsLines, IsAdvancing, IsEnding, IsSent, is_keyed, IsPlain}
 use Rattle.cob_proc.specs.Trees.{Plain, moves, adds, subtracts, performs, goes, exits, stops, sends, switches_input, switches_output, accepts}
 use Rattle.cob_proc.specs.StatementReaders as statements
@@ -54,7 +54,7 @@ times_ok count ts rest w = rw (word_ok (reserved (codes "TIMES")) w.0 ts rest w.
 repetition_ok : (r : Repetition) (ts rest : List Token) → IsRepetition r ts rest → statements.repetition ts ≡ Ok (r, rest)
 unfolding statements.repetition
 repetition_ok repetitions.Once ts rest u =
-    let none = starts_none (rows_of forms.repetition) rest u.1 in
+    let none = starts_none (alternatives_of forms.repetition) rest u.1 in
     let a : begins (is name) ts ≡ false = rw (← u.0) none.0 in
     let b : begins (is (of_kind tokens.Number)) ts ≡ false = rw (← u.0) none.1.0 in
     let c : begins (is (reserved (codes "UNTIL"))) ts ≡ false = rw (← u.0) none.1.1.0 in
@@ -114,7 +114,7 @@ indicator_ok indicators.Egi ts rest (m, w, h) = marked_ok indicators.Egi ts m re
 counted_ok : (count : Addend) (ts rest : List Token) → line_or_lines ts rest → statements.perhaps_lines (lines.Count count) ts ≡ Ok (lines.Count count, rest)
 unfolding statements.perhaps_lines
 counted_ok count ts rest (inl u) =
-    let none = starts_none (rows_of forms.line_word) rest u.1 in
+    let none = starts_none (alternatives_of forms.line_word) rest u.1 in
     let a : begins (is (reserved (codes "LINE"))) ts ≡ false = rw (← u.0) none.0 in
     let b : begins (is (reserved (codes "LINES"))) ts ≡ false = rw (← u.0) none.1.0 in
     rw (a, b) (ap (λ r. Ok (lines.Count count, r)) (sym u.0))

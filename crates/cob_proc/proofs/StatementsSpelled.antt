@@ -16,7 +16,7 @@ use Rattle.cob_proc.specs.declared.tree.Key.{Key}
 use Rattle.cob_proc.specs.declared.tree.Lines.TheVariants as lines
 use Rattle.cob_proc.specs.declared.tree.Repetition.TheVariants as repetitions
 use Rattle.cob_proc.specs.Forms as forms
-use Rattle.cob_proc.specs.Forms.{rows_of}
+use Rattle.cob_proc.specs.Forms.{alternatives_of}
 use Rattle.cob_proc.specs.Spelled.{begins_form, IsAddend, IsThrough, IsRepetition, IsIndicator, IsLines, IsAdvancing, IsEnding, IsSent, is_switch, is_keyed, IsPlain}
 use Rattle.cob_proc.specs.Trees.{moves, adds, subtracts, performs, goes, exits, stops, sends, accepts}
 use Rattle.cob_proc.specs.PartReaders as parts
@@ -57,7 +57,7 @@ repetition_found ts =
     by_test (begins (is name) ts) (λ _. step (identifier_found ts) (λ item m h. times_found (addends.Item item) ts m h))
     (λ a. by_test (begins (is (of_kind tokens.Number)) ts) (λ _. step (number_found ts) (λ number m h. times_found (addends.Number number) ts m h))
     (λ b. by_test (begins (is (reserved (codes "UNTIL"))) ts) (λ _. step (word_found (reserved (codes "UNTIL")) ts) (λ _ m h. step (condition_found m) (λ tested m2 h2. end (λ r rest. IsRepetition r ts rest) (repetitions.Until tested) m2 (m, h, h2))))
-    (λ c. end (λ r rest. IsRepetition r ts rest) repetitions.Once ts (refl, none_starts (rows_of forms.repetition) ts (a, (b, (c, tt)))))))
+    (λ c. end (λ r rest. IsRepetition r ts rest) repetitions.Once ts (refl, none_starts (alternatives_of forms.repetition) ts (a, (b, (c, tt)))))))
 
 perform_found : (ts : List Token) → Finds (statements.read_perform ts) (λ s rest. IsPlain s ts rest)
 unfolding statements.read_perform
@@ -95,7 +95,7 @@ unfolding statements.perhaps_lines
 count_found count ts m h =
     by_test (begins (is (reserved (codes "LINE"))) m) (λ _. step (word_found (reserved (codes "LINE")) m) (λ _ m2 h2. end (λ l rest. IsLines l ts rest) (lines.Count count) m2 (m, h, inr (inl h2))))
     (λ b. by_test (begins (is (reserved (codes "LINES"))) m) (λ _. step (word_found (reserved (codes "LINES")) m) (λ _ m2 h2. end (λ l rest. IsLines l ts rest) (lines.Count count) m2 (m, h, inr (inr h2))))
-    (λ c. end (λ l rest. IsLines l ts rest) (lines.Count count) m (m, h, inl (refl, none_starts (rows_of forms.line_word) m (b, (c, tt))))))
+    (λ c. end (λ l rest. IsLines l ts rest) (lines.Count count) m (m, h, inl (refl, none_starts (alternatives_of forms.line_word) m (b, (c, tt))))))
 
 lines_found : (ts : List Token) → Finds (statements.lines_or_page ts) (λ l rest. IsLines l ts rest)
 unfolding statements.lines_or_page

@@ -8,7 +8,7 @@ use Rattle.cob_lex.specs.Lexing.{lines_tokens, text_tokens, tokens_of}
 use Rattle.cob_forms.specs.Forms.{next, reading}
 use Rattle.cob_forms.specs.Faults.{fault, wanted_word}
 use Rattle.cob_lex.proofs.Programs.{source}
-use Rattle.cob_proc.specs.Forms.{procedure_division, rows_of}
+use Rattle.cob_proc.specs.Forms.{procedure_division, alternatives_of}
 
 -- the tokens of a source without a fault
 abbrev pub tokens_in : Result (List Token) SourceFault → List Token
@@ -16,7 +16,7 @@ tokens_in (Ok tokens) = tokens
 tokens_in (Err fault) = []
 
 abbrev asked_of : List Token → Option SourceFault
-asked_of tokens = wanted_word tokens (reading rows_of procedure_division tokens)
+asked_of tokens = wanted_word tokens (reading alternatives_of procedure_division tokens)
 
 -- where another word or sign is wanted in a source
 abbrev asked : List ℕ → Option SourceFault

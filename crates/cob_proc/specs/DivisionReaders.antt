@@ -63,7 +63,7 @@ branch statements = do
   others ← otherwise statements
   found (branches (position_of sign) tested (block_of holds) (block_of others))
 
--- a statement of at most so many tokens
+-- a statement in which fewer IFs than this stand in one another
 unfoldable pub read_statement : ℕ → Reader Tree
 read_statement zero = wanted
 read_statement (suc n) =

@@ -1,23 +1,21 @@
 -- The faults of a Procedure Division, beside the names of its data: the first of all by place and then by kind.
-use Rattle.std.specs.Prelude.{ℕ, Bool, true, false, not, ◌&&◌, ◌||◌, ◌==◌, nat_le, List, [], ◌∷◌, ◌++◌, length, drop, Option, Some, None, codes, bytes_eq, if◌then◌else◌}
+use Rattle.std.specs.Prelude.{ℕ, Bool, true, false, not, ◌&&◌, ◌||◌, ◌==◌, nat_le, List, [], ◌∷◌, ◌++◌, length, drop, Option, Some, None, codes, bytes_eq, if◌then◌else◌, option_to_list}
 use Rattle.std.specs.List.{list_any}
 use Rattle.cob_lex.specs.declared.fault.SourceFault.{SourceFault}
 use Rattle.cob_lex.specs.declared.fault.SourceKind.{SourceKind}
 use Rattle.cob_lex.specs.declared.fault.SourceKind.TheVariants as faults
 use Rattle.cob_lex.specs.declared.token.Token.{Token}
-use Rattle.cob_forms.specs.Sorts.{is, name, reserved}
+use Rattle.cob_forms.specs.Sorts.{in_area_a, is, name, reserved}
 use Rattle.cob_forms.specs.Forms.{Reading, reading, starts}
 use Rattle.cob_forms.specs.Faults.{counting, first, noted, wanted_word}
 use Rattle.cob_forms.specs.Readers.{begins}
-use Rattle.cob_proc.specs.Forms.{constant_rows, relation_rows, period, procedure_division, rows_of}
+use Rattle.cob_proc.specs.declared.limits.TheConstants.{MAX_IFS, MAX_PARAGRAPHS}
+use Rattle.cob_proc.specs.Forms.{constant_alternatives, relation_alternatives, period, procedure_division, alternatives_of}
 
 -- whether a token names a paragraph: it is a name behind a period
 abbrev pub names_paragraph : Option Token → Token → Bool
 names_paragraph None t = false
 names_paragraph (Some before) t = is period before && is name t
-
-abbrev pub in_area_a : Token → Bool
-in_area_a t = nat_le 8 t.column && nat_le t.column 11
 
 abbrev pub in_same_line : Option Token → Token → Bool
 in_same_line None t = false
@@ -61,9 +59,6 @@ abbrev pub at_next : SourceKind → List Token → List SourceFault
 at_next kind [] = []
 at_next kind (t ∷ ts) = noted true kind t
 
-abbrev pub MAX_PARAGRAPHS : ℕ
-MAX_PARAGRAPHS = 1000
-
 abbrev pub too_many : ℕ → List Token → List SourceFault
 too_many limit names = at_next faults.OverLimit (drop limit names)
 
@@ -80,9 +75,6 @@ open_behind ifs t =
     else (if is (reserved (codes "IF")) t then false ∷ ifs
     else (if is (reserved (codes "ELSE")) t then behind_else ifs else ifs))
 
-abbrev pub MAX_IFS : ℕ
-MAX_IFS = 64
-
 -- the IFs that stand in as many as may be
 abbrev pub deep_ifs : ℕ → List Bool → List Token → List SourceFault
 deep_ifs limit ifs [] = []
@@ -91,7 +83,7 @@ deep_ifs limit ifs (t ∷ ts) =
 
 -- a literal, a number, SPACE, ZERO or one of their kin
 abbrev pub is_constant : Token → Bool
-is_constant = starts constant_rows
+is_constant = starts constant_alternatives
 
 -- the tokens behind a word that may be left out
 abbrev pub behind_word : List ℕ → List Token → List Token
@@ -100,7 +92,7 @@ behind_word text (t ∷ ts) = if is (reserved text) t then ts else t ∷ ts
 
 abbrev pub relates_constant : List Token → Bool
 relates_constant [] = false
-relates_constant (t ∷ ts) = starts relation_rows t && begins is_constant (behind_word (codes "TO") (behind_word (codes "THAN") ts))
+relates_constant (t ∷ ts) = starts relation_alternatives t && begins is_constant (behind_word (codes "TO") (behind_word (codes "THAN") ts))
 
 -- a simple condition between two constants
 abbrev pub compares_constants : List Token → Bool
@@ -111,11 +103,6 @@ abbrev pub without_identifier : List Token → List SourceFault
 without_identifier [] = []
 without_identifier (t ∷ ts) = noted (compares_constants (t ∷ ts)) faults.WrongKind t ++ without_identifier ts
 
--- the fault of a reading that stopped
-abbrev pub stop_of : Option SourceFault → List SourceFault
-stop_of None = []
-stop_of (Some stop) = stop ∷ []
-
 -- the faults of some tokens that were read
 abbrev pub read_faults : List Token → List SourceFault
 read_faults ts =
@@ -123,10 +110,10 @@ read_faults ts =
 
 -- all faults of the division: another word is wanted where reading stops, and the other faults count before it
 abbrev pub faults_by : List Token → Reading → List SourceFault
-faults_by ts read = stop_of (wanted_word ts read) ++ read_faults (counting ts read)
+faults_by ts read = option_to_list (wanted_word ts read) ++ read_faults (counting ts read)
 
 abbrev pub procedure_faults : List Token → List SourceFault
-procedure_faults ts = faults_by ts (reading rows_of procedure_division ts)
+procedure_faults ts = faults_by ts (reading alternatives_of procedure_division ts)
 
 -- the first, by place and then by kind
 abbrev pub procedure_fault : List Token → Option SourceFault

@@ -32,12 +32,12 @@ use Rattle.cob_proc.specs.declared.tree.Simple.TheVariants as simples
 use Rattle.cob_proc.specs.declared.tree.Subscript.{Subscript}
 use Rattle.cob_proc.specs.declared.tree.Subscript.TheVariants as subscripts
 use Rattle.cob_proc.specs.Forms as forms
-use Rattle.cob_proc.specs.Forms.{rows_of, period}
+use Rattle.cob_proc.specs.Forms.{alternatives_of, period}
 use Rattle.cob_proc.specs.Trees.{Plain, moves, adds, subtracts, performs, goes, exits, stops, sends, switches_input, switches_output, accepts, Tree, plain, branches, receives, Block, none, lead, ParagraphTree}
 
 -- whether a token begins a form
 abbrev pub begins_form : forms.Form → Token → Bool
-begins_form form = starts (rows_of form)
+begins_form form = starts (alternatives_of form)
 
 -- identifiers and operands
 abbrev pub open_sign : Sort

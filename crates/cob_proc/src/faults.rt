@@ -2,25 +2,17 @@
 ghost use Rattle.std.specs.Prelude.{◌≡◌, ◌++◌, None, Some, [], IfOk, OnOk, bytes_eq, map};
 ghost use Rattle.cob_forms.specs.Forms.{starts};
 ghost use Rattle.cob_forms.specs.Readers.{begins};
-ghost use Rattle.cob_proc.specs.Forms.{relation_rows};
+ghost use Rattle.cob_proc.specs.Forms.{relation_alternatives};
 ghost use Rattle.std.specs.List.{list_any};
 ghost use Rattle.cob_forms.specs.Faults.{first};
-ghost use Rattle.cob_proc.specs.Faults.{MAX_IFS, MAX_PARAGRAPHS, bad_columns, behind_word, column_behind, compares_constants, deep_ifs, in_area_a, is_constant, name_behind, named_again, names_paragraph, paragraph_names, read_faults, relates_constant, stands_well, too_many, without_identifier};
+ghost use Rattle.cob_proc.specs.declared.limits.TheConstants.{MAX_IFS};
+ghost use Rattle.cob_proc.specs.Faults.{bad_columns, behind_word, column_behind, compares_constants, deep_ifs, is_constant, name_behind, named_again, names_paragraph, paragraph_names, read_faults, relates_constant, stands_well, too_many, without_identifier};
 
 use crate::ifs::OpenIfs;
-use cob_forms::{fault_at, first_of, is_kind, is_name, is_word, noted};
+use crate::limits::MAX_PARAGRAPHS;
+use cob_forms::{fault_at, first_of, in_area_a, is_kind, is_name, is_word, noted};
 use cob_lex::{SourceFault, SourceKind, Token, TokenKind};
 use std::alloc::{AllocError, Global};
-
-/// How many paragraphs a program may have.
-pub const MAX_PARAGRAPHS: usize = 1000;
-
-/// Whether a token begins in area A.
-fn in_area_a(token: &Token) -> bool
-    ensures { result ≡ in_area_a token.now }
-{
-    8 <= token.column && token.column <= 11
-}
 
 /// Whether a token names a paragraph, by the one before it.
 fn names_paragraph(before: &Token, token: &Token) -> bool
@@ -96,10 +88,10 @@ fn is_among(name: &Token, names: &[&Token]) -> bool
 {
     names
         .iter()
-        .any(|other| name.text.as_bytes() == other.text.as_bytes())
+        .any(|other| name.text.as_str() == other.text.as_str())
 }
 
-/// The first paragraph whose name stands before.
+/// The first paragraph whose name an earlier one has already.
 fn first_named_again(names: &[&Token]) -> Option<SourceFault>
     ensures { result ≡ first (named_again [] (map (λ t. t.now) names.now)) }
 {
@@ -135,7 +127,7 @@ fn first_deep_if(alloc: Global, tokens: &[Token]) -> Result<Option<SourceFault>,
     'tokens: while let Some((token, behind)) = rest.split_first() {
         found = first_of(
             found,
-            noted(ifs.refuse(token), SourceKind::OverLimit, token),
+            noted(ifs.is_too_deep(token), SourceKind::OverLimit, token),
         );
         ifs.pass(token)?;
         rest = behind;
@@ -158,7 +150,7 @@ fn is_constant(token: &Token) -> bool
 
 /// Whether a token begins a relation.
 fn is_relation(token: &Token) -> bool
-    ensures { result ≡ starts relation_rows token.now }
+    ensures { result ≡ starts relation_alternatives token.now }
 {
     is_kind(token, TokenKind::Equal)
         || is_word(token, b"EQUAL")

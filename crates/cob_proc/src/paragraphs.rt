@@ -18,13 +18,13 @@ use std::alloc::Global;
 #[tactic(auto, unfolding(crate::specs::DivisionReaders::read_sentence))]
 fn take_sentence(
     alloc: Global,
-    most: usize,
+    depth: usize,
     tokens: &[Token],
 ) -> Result<(Vec<Statement>, &[Token]), Stop>
-    ensures gives { Gives (λ x. (block_of (trees_of x.0.items), x.1.now)) result (read_sentence most tokens.now) }
+    ensures gives { Gives (λ x. (block_of (trees_of x.0.items), x.1.now)) result (read_sentence depth tokens.now) }
     ensures fewer { IfOk result (λ x. length x.1.now < length tokens.now) }
 {
-    let (statements, rest) = take_statements(alloc, most, tokens)?;
+    let (statements, rest) = take_statements(alloc, depth, tokens)?;
     let (_, rest) = take_kind(rest, TokenKind::Period)?;
     Ok((statements, rest))
 }
@@ -33,16 +33,16 @@ fn take_sentence(
 #[tactic(auto, unfolding(crate::specs::DivisionReaders::read_sentences))]
 fn take_sentences(
     alloc: Global,
-    most: usize,
+    depth: usize,
     tokens: &[Token],
 ) -> Result<(Rows<Vec<Statement>>, &[Token]), Stop>
-    ensures gives { Gives (λ x. (map (λ s. block_of (trees_of s.items)) x.0, x.1.now)) result (read_sentences most tokens.now) }
+    ensures gives { Gives (λ x. (map (λ s. block_of (trees_of s.items)) x.0, x.1.now)) result (read_sentences depth tokens.now) }
     ensures no_more { IfOk result (λ x. length x.1.now ≤ length tokens.now) }
 {
     let mut list = Vec::new(alloc);
     let mut rest = tokens;
     'turns: while next_is_sentence(rest) {
-        let (item, after) = take_sentence(alloc, most, rest)?;
+        let (item, after) = take_sentence(alloc, depth, rest)?;
         list.push(item)?;
         rest = after;
     }
@@ -53,15 +53,15 @@ fn take_sentences(
 #[tactic(auto, unfolding(crate::specs::DivisionReaders::read_paragraph))]
 fn take_paragraph(
     alloc: Global,
-    most: usize,
+    depth: usize,
     tokens: &[Token],
 ) -> Result<(Paragraph, &[Token]), Stop>
-    ensures gives { Gives (λ x. (paragraph_tree x.0, x.1.now)) result (read_paragraph most tokens.now) }
+    ensures gives { Gives (λ x. (paragraph_tree x.0, x.1.now)) result (read_paragraph depth tokens.now) }
     ensures fewer { IfOk result (λ x. length x.1.now < length tokens.now) }
 {
     let (name, rest) = take_name(tokens)?;
     let (_, rest) = take_kind(rest, TokenKind::Period)?;
-    let (sentences, rest) = take_sentences(alloc, most, rest)?;
+    let (sentences, rest) = take_sentences(alloc, depth, rest)?;
     Ok((Paragraph { name, sentences }, rest))
 }
 
@@ -79,17 +79,17 @@ fn next_is_paragraph(tokens: &[Token]) -> bool
 #[tactic(auto, unfolding(crate::specs::DivisionReaders::read_paragraphs))]
 fn take_paragraphs(
     alloc: Global,
-    most: usize,
+    depth: usize,
     tokens: &[Token],
 ) -> Result<(Rows<Paragraph>, &[Token]), Stop>
-    ensures gives { Gives (λ x. (map paragraph_tree x.0, x.1.now)) result (read_paragraphs most tokens.now) }
+    ensures gives { Gives (λ x. (map paragraph_tree x.0, x.1.now)) result (read_paragraphs depth tokens.now) }
     ensures fewer { IfOk result (λ x. length x.1.now < length tokens.now) }
 {
     let mut list = Vec::new(alloc);
-    let (first, mut rest) = take_paragraph(alloc, most, tokens)?;
+    let (first, mut rest) = take_paragraph(alloc, depth, tokens)?;
     list.push(first)?;
     'turns: while next_is_paragraph(rest) {
-        let (item, after) = take_paragraph(alloc, most, rest)?;
+        let (item, after) = take_paragraph(alloc, depth, rest)?;
         list.push(item)?;
         rest = after;
     }
@@ -100,19 +100,20 @@ fn take_paragraphs(
 #[tactic(auto, unfolding(crate::specs::DivisionReaders::read_division))]
 fn take_division(
     alloc: Global,
-    most: usize,
+    depth: usize,
     tokens: &[Token],
 ) -> Result<(Procedure, &[Token]), Stop>
-    ensures gives { Gives (λ x. (procedure_trees x.0, x.1.now)) result (read_division most tokens.now) }
+    ensures gives { Gives (λ x. (procedure_trees x.0, x.1.now)) result (read_division depth tokens.now) }
 {
     let (_, rest) = take_word(tokens, b"PROCEDURE")?;
     let (_, rest) = take_word(rest, b"DIVISION")?;
     let (_, rest) = take_kind(rest, TokenKind::Period)?;
-    let (paragraphs, rest) = take_paragraphs(alloc, most, rest)?;
+    let (paragraphs, rest) = take_paragraphs(alloc, depth, rest)?;
     Ok((Procedure { paragraphs }, rest))
 }
 
-/// The division that all of the tokens are, or how many are left where another is wanted.
+/// The division that all of the tokens are, or how many are left where another is wanted. No IFs nest deeper
+/// than there are tokens, so the depth never runs out.
 pub(crate) fn read_trees(alloc: Global, tokens: &[Token]) -> Result<Procedure, Stop>
     ensures { Gives procedure_trees result (read_procedure tokens.now) }
 {

@@ -3,7 +3,7 @@ ghost use Rattle.std.specs.Prelude.{◌≡◌};
 ghost use Rattle.cob_forms.specs.Forms.{starts};
 ghost use Rattle.cob_forms.specs.Readers.{begins};
 ghost use Rattle.cob_proc.specs.Forms as forms;
-ghost use Rattle.cob_proc.specs.Forms.{plain_rows};
+ghost use Rattle.cob_proc.specs.Forms.{plain_alternatives};
 ghost use Rattle.cob_proc.specs.Spelled.{begins_form};
 
 use cob_forms::is_word;
@@ -11,7 +11,7 @@ use cob_lex::Token;
 
 /// Whether a token begins a statement in which no others stand.
 fn starts_plain(token: &Token) -> bool
-    ensures { result ≡ starts plain_rows token.now }
+    ensures { result ≡ starts plain_alternatives token.now }
 {
     is_word(token, b"MOVE")
         || is_word(token, b"ADD")

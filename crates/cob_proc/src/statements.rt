@@ -126,30 +126,30 @@ fn take_receive(alloc: Global, tokens: &[Token]) -> Result<(Statement, &[Token])
 #[tactic(auto, unfolding(crate::specs::DivisionReaders::otherwise))]
 fn take_otherwise(
     alloc: Global,
-    most: usize,
+    depth: usize,
     tokens: &[Token],
 ) -> Result<(Vec<Statement>, &[Token]), Stop>
-    ensures gives { Gives (λ x. (trees_of x.0.items, x.1.now)) result (otherwise (read_statements most) tokens.now) }
+    ensures gives { Gives (λ x. (trees_of x.0.items, x.1.now)) result (otherwise (read_statements depth) tokens.now) }
     ensures no_more { IfOk result (λ x. length x.1.now ≤ length tokens.now) }
 {
     if !next_is_word(tokens, b"ELSE") {
         return Ok((Vec::new(alloc), tokens));
     }
     let (_, rest) = take_word(tokens, b"ELSE")?;
-    take_statements(alloc, most, rest)
+    take_statements(alloc, depth, rest)
 }
 
-/// IF, with statements of at most so many tokens in it.
+/// IF, with statements of this depth in it.
 #[cycle(statement)]
 #[tactic(auto, unfolding(crate::specs::DivisionReaders::branch))]
-fn take_branch(alloc: Global, most: usize, tokens: &[Token]) -> Result<(Statement, &[Token]), Stop>
-    ensures gives { Gives (λ x. (tree_of x.0, x.1.now)) result (branch (read_statements most) tokens.now) }
+fn take_branch(alloc: Global, depth: usize, tokens: &[Token]) -> Result<(Statement, &[Token]), Stop>
+    ensures gives { Gives (λ x. (tree_of x.0, x.1.now)) result (branch (read_statements depth) tokens.now) }
     ensures fewer { IfOk result (λ x. length x.1.now < length tokens.now) }
 {
     let (sign, rest) = take_word(tokens, b"IF")?;
     let (condition, rest) = take_condition(alloc, rest)?;
-    let (holds, rest) = take_statements(alloc, most, rest)?;
-    let (otherwise, rest) = take_otherwise(alloc, most, rest)?;
+    let (holds, rest) = take_statements(alloc, depth, rest)?;
+    let (otherwise, rest) = take_otherwise(alloc, depth, rest)?;
     let statement = Statement::If {
         position: Position::of(sign),
         condition,
@@ -159,22 +159,22 @@ fn take_branch(alloc: Global, most: usize, tokens: &[Token]) -> Result<(Statemen
     Ok((statement, rest))
 }
 
-/// A statement of at most so many tokens.
+/// A statement in which fewer IFs than `depth` stand in one another.
 #[cycle(statement)]
 #[tactic(auto, using(crate::proofs::Fuel::statement_steps))]
 fn take_statement(
     alloc: Global,
-    most: usize,
+    depth: usize,
     tokens: &[Token],
 ) -> Result<(Statement, &[Token]), Stop>
-    ensures gives { Gives (λ x. (tree_of x.0, x.1.now)) result (read_statement most tokens.now) }
+    ensures gives { Gives (λ x. (tree_of x.0, x.1.now)) result (read_statement depth tokens.now) }
     ensures fewer { IfOk result (λ x. length x.1.now < length tokens.now) }
 {
-    if most == 0 {
+    if depth == 0 {
         return Err(Stop::Wanted(tokens.len()));
     }
     if next_is_word(tokens, b"IF") {
-        return take_branch(alloc, most - 1, tokens);
+        return take_branch(alloc, depth - 1, tokens);
     }
     if next_is_word(tokens, b"RECEIVE") {
         return take_receive(alloc, tokens);
@@ -187,17 +187,17 @@ fn take_statement(
 #[tactic(auto, unfolding(crate::specs::DivisionReaders::read_statements))]
 pub(crate) fn take_statements(
     alloc: Global,
-    most: usize,
+    depth: usize,
     tokens: &[Token],
 ) -> Result<(Vec<Statement>, &[Token]), Stop>
-    ensures gives { Gives (λ x. (trees_of x.0.items, x.1.now)) result (read_statements most tokens.now) }
+    ensures gives { Gives (λ x. (trees_of x.0.items, x.1.now)) result (read_statements depth tokens.now) }
     ensures fewer { IfOk result (λ x. length x.1.now < length tokens.now) }
 {
     let mut list = Vec::new(alloc);
-    let (first, mut rest) = take_statement(alloc, most, tokens)?;
+    let (first, mut rest) = take_statement(alloc, depth, tokens)?;
     list.push(first)?;
     'turns: while next_is_statement(rest) {
-        let (item, after) = take_statement(alloc, most, rest)?;
+        let (item, after) = take_statement(alloc, depth, rest)?;
         list.push(item)?;
         rest = after;
     }

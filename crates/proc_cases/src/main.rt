@@ -1,5 +1,7 @@
 //! Cases of Procedure Divisions. Each line of `stdin` is a division: `division` has its source, and
-//! `sentences` the lines of its one paragraph in area B. `stdout` has the first fault, or `ok`.
+//! `sentences` the lines of its one paragraph in area B. `repeated` and `paragraphs` make long ones: they have
+//! a line, how many lines of a kind stand behind it, and the lines at the end, each from column 8. `stdout` has
+//! the first fault, or `ok`.
 #![tactic(auto)]
 
 use case_lines::{Cases, Words, answer_cases, unknown_call};
@@ -22,6 +24,14 @@ impl Cases for Divisions {
                 let source = paragraph(self.alloc, words)?;
                 first_fault(self.alloc, &source)
             }
+            b"repeated" => {
+                let source = repeated_line(self.alloc, words)?;
+                first_fault(self.alloc, &source)
+            }
+            b"paragraphs" => {
+                let source = many_paragraphs(self.alloc, words)?;
+                first_fault(self.alloc, &source)
+            }
             _ => unknown_call(self.alloc),
         }
     }
@@ -35,6 +45,48 @@ fn paragraph(alloc: Global, words: &mut Words<'_>) -> Result<Vec<u8>, AllocError
         source.extend_from_slice(b"           ")?;
         source.extend_from_slice(words.bytes())?;
         source.push(b'\n')?;
+    }
+    Ok(source)
+}
+
+/// Adds a line from column 8.
+fn push_line(source: &mut Vec<u8>, line: &[u8]) -> Result<(), AllocError> {
+    source.extend_from_slice(b"       ")?;
+    source.extend_from_slice(line)?;
+    source.push(b'\n')?;
+    Ok(())
+}
+
+/// The source of a division with one paragraph: from line 3 on a line, the next one as many times as the
+/// number between them says, and the others.
+fn repeated_line(alloc: Global, words: &mut Words<'_>) -> Result<Vec<u8>, AllocError> {
+    let mut source = Vec::new(alloc);
+    push_line(&mut source, b"PROCEDURE DIVISION.")?;
+    push_line(&mut source, b"MAIN.")?;
+    push_line(&mut source, words.bytes())?;
+    let count = words.number();
+    let line = words.bytes();
+    for _ in 0..count {
+        push_line(&mut source, line)?;
+    }
+    for _ in 0..words.len() {
+        push_line(&mut source, words.bytes())?;
+    }
+    Ok(source)
+}
+
+/// The source of a division: from line 2 on a line, as many paragraphs P0, P1 .. as the number says, and
+/// the other lines.
+fn many_paragraphs(alloc: Global, words: &mut Words<'_>) -> Result<Vec<u8>, AllocError> {
+    let mut source = Vec::new(alloc);
+    push_line(&mut source, b"PROCEDURE DIVISION.")?;
+    push_line(&mut source, words.bytes())?;
+    for number in 0..words.number() {
+        let paragraph = format!(in alloc; "P{number}. EXIT.")?;
+        push_line(&mut source, paragraph.as_bytes())?;
+    }
+    for _ in 0..words.len() {
+        push_line(&mut source, words.bytes())?;
     }
     Ok(source)
 }

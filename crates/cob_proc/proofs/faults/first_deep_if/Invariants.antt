@@ -1,6 +1,7 @@
 use Rattle.std.proofs.Common.{◌≡◌, [], length}
 use Rattle.cob_forms.specs.Faults.{earlier, first}
-use Rattle.cob_proc.specs.Faults.{MAX_IFS, deep_ifs}
+use Rattle.cob_proc.specs.declared.limits.TheConstants.{MAX_IFS}
+use Rattle.cob_proc.specs.Faults.{deep_ifs}
 use Rattle.cob_proc.proofs.faults.first_deep_if.Given as goal
 
 abbrev pub invariant-tokens : goal.invariant-tokens

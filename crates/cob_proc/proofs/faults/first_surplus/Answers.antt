@@ -1,5 +1,5 @@
 use Rattle.std.proofs.Common.{sym}
-use Rattle.cob_proc.specs.Faults.{MAX_PARAGRAPHS}
+use Rattle.cob_proc.specs.declared.limits.TheConstants.{MAX_PARAGRAPHS}
 use Rattle.cob_proc.proofs.Families.{surplus_none}
 use Rattle.cob_proc.proofs.faults.first_surplus.Goals as goal
 

@@ -11,15 +11,15 @@ use Rattle.cob_proc.proofs.paragraphs.take_paragraphs.Goals as goal
 pub returns-in_err-item-clause-gives : goal.returns-in_err-item-clause-gives
 returns-in_err-item-clause-gives c =
     let p = err_from_is_err_and c.from_residual-in_err-item.result c.from_residual-in_err-item.ensures.1 in
-    rw (p.1, p.2) (fails (begins_form forms.paragraph) (read_paragraph c.args.most) c.in_err-item.field-0.0 (map paragraph_tree c.turns.list.items) c.turns.rest.now (read_paragraphs c.args.most c.args.tokens.now) (sym c.next_is_paragraph.ensures ∙ c.turns-test.true) c.turns.invariant.read c.in_err-item.ensures.gives)
+    rw (p.1, p.2) (fails (begins_form forms.paragraph) (read_paragraph c.args.depth) c.in_err-item.field-0.0 (map paragraph_tree c.turns.list.items) c.turns.rest.now (read_paragraphs c.args.depth c.args.tokens.now) (sym c.next_is_paragraph.ensures ∙ c.turns-test.true) c.turns.invariant.read c.in_err-item.ensures.gives)
 
 pub turns-preserved : goal.turns-preserved
 turns-preserved c = record {
   read =
       let e = map_push paragraph_tree c.turns.list.items c.in_ok-item.item in
-      rw (c.in_ok-push-2.ensures.items, e) (goes_on (begins_form forms.paragraph) (read_paragraph c.args.most) (map paragraph_tree c.turns.list.items) _ c.turns.rest.now c.in_ok-item.after.now (read_paragraphs c.args.most c.args.tokens.now) (sym c.next_is_paragraph.ensures ∙ c.turns-test.true) c.in_ok-item.ensures.gives c.in_ok-item.ensures.fewer c.turns.invariant.read);
+      rw (c.in_ok-push-2.ensures.items, e) (goes_on (begins_form forms.paragraph) (read_paragraph c.args.depth) (map paragraph_tree c.turns.list.items) _ c.turns.rest.now c.in_ok-item.after.now (read_paragraphs c.args.depth c.args.tokens.now) (sym c.next_is_paragraph.ensures ∙ c.turns-test.true) c.in_ok-item.ensures.gives c.in_ok-item.ensures.fewer c.turns.invariant.read);
   fewer = omega (arith, c.in_ok-item.ensures.fewer);
 }
 
 pub returns-clause-gives : goal.returns-clause-gives
-returns-clause-gives c = rw c.of_vec.ensures (ends (begins_form forms.paragraph) (read_paragraph c.args.most) (map paragraph_tree c.turns.list.items) c.turns.rest.now (read_paragraphs c.args.most c.args.tokens.now) (sym c.next_is_paragraph.ensures ∙ c.turns-test.false) c.turns.invariant.read)
+returns-clause-gives c = rw c.of_vec.ensures (ends (begins_form forms.paragraph) (read_paragraph c.args.depth) (map paragraph_tree c.turns.list.items) c.turns.rest.now (read_paragraphs c.args.depth c.args.tokens.now) (sym c.next_is_paragraph.ensures ∙ c.turns-test.false) c.turns.invariant.read)

@@ -8,7 +8,7 @@ use Rattle.cob_proc.proofs.paragraphs.take_paragraphs.Given as goal
 
 abbrev pub invariant-turns : goal.invariant-turns
 invariant-turns l = record {
-  read : Left (begins_form forms.paragraph) (read_paragraph l.most) (map paragraph_tree l.list.items) l.rest (read_paragraphs l.most l.tokens);
+  read : Left (begins_form forms.paragraph) (read_paragraph l.depth) (map paragraph_tree l.list.items) l.rest (read_paragraphs l.depth l.tokens);
   fewer : length l.rest < length l.tokens;
 }
 

@@ -8,7 +8,7 @@ use Rattle.cob_proc.proofs.paragraphs.take_sentences.Given as goal
 
 abbrev pub invariant-turns : goal.invariant-turns
 invariant-turns l = record {
-  read : Left (begins_form forms.sentence) (read_sentence l.most) (map (λ s. block_of (trees_of s.items)) l.list.items) l.rest (read_sentences l.most l.tokens);
+  read : Left (begins_form forms.sentence) (read_sentence l.depth) (map (λ s. block_of (trees_of s.items)) l.list.items) l.rest (read_sentences l.depth l.tokens);
   fewer : length l.rest ≤ length l.tokens;
 }
 

@@ -7,20 +7,20 @@ use Rattle.cob_proc.specs.DivisionReaders.{read_statement, read_statements}
 use Rattle.cob_proc.proofs.statements.+statement.Given as goal
 
 abbrev pub decreases-take_statement : goal.decreases-take_statement
-decreases-take_statement l = 4 * l.most
+decreases-take_statement l = 4 * l.depth
 
 abbrev pub decreases-take_statements : goal.decreases-take_statements
-decreases-take_statements l = 4 * l.most + 1
+decreases-take_statements l = 4 * l.depth + 1
 
 abbrev pub decreases-take_otherwise : goal.decreases-take_otherwise
-decreases-take_otherwise l = 4 * l.most + 2
+decreases-take_otherwise l = 4 * l.depth + 2
 
 abbrev pub decreases-take_branch : goal.decreases-take_branch
-decreases-take_branch l = 4 * l.most + 3
+decreases-take_branch l = 4 * l.depth + 3
 
 abbrev pub invariant-take_statements-turns : goal.invariant-take_statements-turns
 invariant-take_statements-turns l = record {
-  read : Left (begins_form forms.statement) (read_statement l.most) (trees_of l.list.items) l.rest (read_statements l.most l.tokens);
+  read : Left (begins_form forms.statement) (read_statement l.depth) (trees_of l.list.items) l.rest (read_statements l.depth l.tokens);
   fewer : length l.rest < length l.tokens;
 }
 
