@@ -146,11 +146,11 @@ next_entry word next (t ∷ ts) front back n some size at_front behind flag = rw
 
 -- THE NEXT CLAUSE
 
-all_but_more : (clause : List Token) (others : List (List Token)) → 1 ≤ length others → all_but_last (clause ∷ others) ≡ clause ∷ all_but_last others
-all_but_more clause [] some = absurd (omega (arith, some))
-all_but_more clause (other ∷ others) some =
-    let one_more : length (clause ∷ other ∷ others) - 1 ≡ suc (length (other ∷ others) - 1) = omega arith in
-    ap (λ k. take k (clause ∷ other ∷ others)) one_more
+pub all_but_more : {A : Type 0} (x : A) (others : List A) → 1 ≤ length others → all_but_last (x ∷ others) ≡ x ∷ all_but_last others
+all_but_more x [] some = absurd (omega (arith, some))
+all_but_more x (other ∷ others) some =
+    let one_more : length (x ∷ other ∷ others) - 1 ≡ suc (length (other ∷ others) - 1) = omega arith in
+    ap (λ k. take k (x ∷ other ∷ others)) one_more
 
 some_piece : (ends : Token → List Token → Bool) (t : Token) (ts : List Token) → 1 ≤ length (pieces ends (t ∷ ts))
 some_piece ends t ts = rw (first_piece ends t ts) (omega arith)

@@ -8,7 +8,7 @@ use Rattle.cob_lex.specs.declared.token.TokenKind.TheVariants as tokens
 use Rattle.cob_forms.specs.Sorts.{Sort, is, reserved, any_word, of_kind}
 use Rattle.cob_forms.specs.Faults.{at_first, before_wanted, fault, wanted_word}
 use Rattle.cob_forms.specs.Forms.{Part, token, maybe, ends, wanted, goes_on, next, reading}
-use Rattle.cob_data.specs.Forms.{Form, rows_of, data_division, environment}
+use Rattle.cob_data.specs.Forms.{Form, alternatives_of, data_division, environment}
 use Rattle.cob_data.specs.Forms as all
 use Rattle.cob_forms.specs.Written.{name_of}
 use Rattle.cob_data.specs.declared.tree.CdEntry.{CdEntry}
@@ -108,11 +108,11 @@ tokens_of (sort ∷ sorts) parts = token sort ∷ tokens_of sorts parts
 not_wanted : (left : ℕ) (rest : List Token) → wanted left ≡ ends rest → ⊥
 not_wanted left rest h = cc
 
-step_by : (b : Bool) (parts : List (Part Form)) (us rest : List Token) (n : ℕ) → goes_on (if b then Some parts else None) (λ left. reading rows_of left us) n ≡ ends rest → reading rows_of parts us ≡ ends rest
+step_by : (b : Bool) (parts : List (Part Form)) (us rest : List Token) (n : ℕ) → goes_on (if b then Some parts else None) (λ left. reading alternatives_of left us) n ≡ ends rest → reading alternatives_of parts us ≡ ends rest
 step_by true parts us rest n h = h
 step_by false parts us rest n h = absurd (not_wanted n rest h)
 
-tokens_first : (sorts : List Sort) (parts : List (Part Form)) (ts rest : List Token) → reading rows_of (tokens_of sorts parts) ts ≡ ends rest → length sorts ≤ length ts
+tokens_first : (sorts : List Sort) (parts : List (Part Form)) (ts rest : List Token) → reading alternatives_of (tokens_of sorts parts) ts ≡ ends rest → length sorts ≤ length ts
 unfolding reading next tokens_of
 tokens_first [] parts ts rest h = omega arith
 tokens_first (sort ∷ sorts) parts [] rest h = absurd (not_wanted 0 rest h)
@@ -132,7 +132,7 @@ none_at [] i h = refl
 none_at (x ∷ xs) zero h = absurd (omega (arith, h))
 none_at (x ∷ xs) (suc i) h = none_at xs i (omega (arith, h))
 
-pub has_name : (ts rest : List Token) → reading rows_of data_division ts ≡ ends rest → 5 < length ts
+pub has_name : (ts rest : List Token) → reading alternatives_of data_division ts ≡ ends rest → 5 < length ts
 unfolding tokens_of reading first_sorts name_behind
 has_name ts rest h = omega (arith, tokens_first first_sorts name_behind ts rest h)
 
@@ -145,7 +145,7 @@ nothing_added (x ∷ xs) = ap (λ ys. x ∷ ys) (nothing_added xs)
 pub no_second : (list : List CdEntry) (head : List Token) (area : ℕ) (cd : Run) → length head ≤ 1 → list ≡ list ++ cd_named (second_token head) area cd
 no_second list head area cd h = rw (none_at head 1 h) (nothing_added list)
 
-pub told_division : (ts before : List Token) (named : Token) (place : ℕ) (d : DataDivision) → reading rows_of data_division ts ≡ ends (drop (place + 1) ts) → place < length ts → before ≡ take place ts → named ≡ get_or ts 5 named
+pub told_division : (ts before : List Token) (named : Token) (place : ℕ) (d : DataDivision) → reading alternatives_of data_division ts ≡ ends (drop (place + 1) ts) → place < length ts → before ≡ take place ts → named ≡ get_or ts 5 named
     → IsTold named before d → IsDivisionOf ts place d
 told_division ts before named place d read inside front at_name is_told = record {
   complete = read;

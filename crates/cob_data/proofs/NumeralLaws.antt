@@ -1,5 +1,5 @@
 -- Numbers by their digits.
-use Rattle.std.proofs.Common.{◌≡◌, ◌≤◌, ℕ, Bool, true, false, ◌&&◌, List, [], ◌∷◌, length, Option, Some, None, IsSome, IfSome, unwrap_or, refl, sym, ◌∙◌, arith}
+use Rattle.std.proofs.Common.{◌≡◌, ◌≤◌, ◌<◌, ◌^◌, ℕ, Bool, true, false, ◌&&◌, List, [], ◌∷◌, length, Option, Some, None, IsSome, IfSome, unwrap_or, refl, sym, ◌∙◌, arith}
 use Rattle.std.specs.Prelude.{if◌then◌else◌, nat_le}
 use Rattle.std.specs.List.{list_all}
 use Rattle.std.specs.Str.{all_ascii_digits}
@@ -8,15 +8,16 @@ use Rattle.std.proofs.lemmas.Grind.{common_steps}
 use Rattle.std.proofs.lemmas.Bool.Decides.{nat_tests}
 use Rattle.com_text.specs.Digits.{IsNumber, number}
 use Rattle.com_text.specs.Name.{is_digit}
+use Rattle.com_text.proofs.Numerals.{number-lt}
 use Rattle.cob_lex.specs.Fronts.{is_number}
 use Rattle.cob_data.specs.Numerals.{numeral}
 
-both : (a b : Bool) → (a && b) ≡ true → (a ≡ true) × (b ≡ true)
+pub both : (a b : Bool) → (a && b) ≡ true → (a ≡ true) × (b ≡ true)
 both true true h = (refl, refl)
 both true false h = (refl, h)
 both false b h = (h, cc)
 
-joined : (a b : Bool) → a ≡ true → b ≡ true → (a && b) ≡ true
+pub joined : (a b : Bool) → a ≡ true → b ≡ true → (a && b) ≡ true
 joined true true h k = refl
 joined true false h k = k
 joined false b h k = h
@@ -63,3 +64,12 @@ no_truth h = cc
 pub numeral_of : (digits : List ℕ) (found : Option ℕ) (r : ℕ) → (IsSome found → IsNumber digits) × (IsNumber digits → IsSome found) → IfSome found (λ n. n ≡ number digits) → r ≡ unwrap_or found 0 → r ≡ numeral digits
 numeral_of digits (Some n) r some is_n taken = taken ∙ is_n ∙ sym (numeral_some digits (some.0 refl))
 numeral_of digits None r some is_n taken = taken ∙ sym (numeral_none digits (λ k. no_truth (some.1 k)))
+
+lt_by : (b : Bool) (digits : List ℕ) → is_number digits ≡ b → (if b then number digits else 0) < 10 ^ 18
+lt_by true digits h =
+    let parts = both (list_all is_digit digits) (nat_le (length digits) 18) h in
+    number-lt digits 18 (all_digits digits parts.0) (is_short (length digits) parts.1)
+lt_by false digits h = omega arith
+
+pub numeral-lt : (digits : List ℕ) → numeral digits < 10 ^ 18
+numeral-lt digits = lt_by (is_number digits) digits refl

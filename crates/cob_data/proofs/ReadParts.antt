@@ -6,7 +6,7 @@ use Rattle.cob_forms.specs.Sorts.{Sort, is, reserved}
 use Rattle.cob_forms.specs.Forms.{Part, token, form, maybe, more, behind, ends, goes_on, may_end, next, reading, wanted}
 use Rattle.cob_forms.specs.Readers.{begins}
 use Rattle.std.specs.Prelude.{if◌then◌else◌}
-use Rattle.cob_data.specs.Forms.{Form, rows_of}
+use Rattle.cob_data.specs.Forms.{Form, alternatives_of}
 use Rattle.cob_data.specs.declared.reader.Wanted.{Wanted}
 use Rattle.cob_data.specs.declared.grammar.Part.{Part as TablePart}
 use Rattle.cob_data.specs.Tables.{part_of, parts_of}
@@ -14,12 +14,12 @@ use Rattle.cob_data.specs.Stops.{ReadsTo, StopsAt, BeginsWith, BeginsNot}
 
 -- what is read of one part is read of it before further parts too
 pub onward : (p : Part Form) (ts mid : List Token) (ps : List (Part Form)) (part : Part Form) (below : List (Part Form)) → ReadsTo (p ∷ []) ts mid
-    → reading rows_of (p ∷ ps ++ part ∷ below) ts ≡ reading rows_of (ps ++ part ∷ below) mid
+    → reading alternatives_of (p ∷ ps ++ part ∷ below) ts ≡ reading alternatives_of (ps ++ part ∷ below) mid
 onward p ts mid [] part below h = h part below
 onward p ts mid (q ∷ ps) part below h = h q (ps ++ part ∷ below)
 
 pub stopped : (p : Part Form) (ts : List Token) (left : ℕ) (ps : List (Part Form)) (part : Part Form) (below : List (Part Form)) → StopsAt (p ∷ []) ts left
-    → reading rows_of (p ∷ ps ++ part ∷ below) ts ≡ wanted left
+    → reading alternatives_of (p ∷ ps ++ part ∷ below) ts ≡ wanted left
 stopped p ts left [] part below h = h part below
 stopped p ts left (q ∷ ps) part below h = h q (ps ++ part ∷ below)
 
@@ -42,12 +42,12 @@ ends_early sort = λ part below. refl
 pub enters : (f : Form) (ts rest mid : List Token) (parts : List (Part Form)) → BeginsWith f ts parts mid → ReadsTo parts mid rest → ReadsTo (form f ∷ []) ts rest
 unfolding reading next
 enters f [] rest mid parts b h = absurd b
-enters f (t ∷ ts) rest mid parts b h = λ part below. rw b.0 (ap (λ us. reading rows_of (parts ++ part ∷ below) us) b.1 ∙ h part below)
+enters f (t ∷ ts) rest mid parts b h = λ part below. rw b.0 (ap (λ us. reading alternatives_of (parts ++ part ∷ below) us) b.1 ∙ h part below)
 
 pub enters_stop : (f : Form) (ts mid : List Token) (left : ℕ) (parts : List (Part Form)) → BeginsWith f ts parts mid → StopsAt parts mid left → StopsAt (form f ∷ []) ts left
 unfolding reading next
 enters_stop f [] mid left parts b h = absurd b
-enters_stop f (t ∷ ts) mid left parts b h = λ part below. rw b.0 (ap (λ us. reading rows_of (parts ++ part ∷ below) us) b.1 ∙ h part below)
+enters_stop f (t ∷ ts) mid left parts b h = λ part below. rw b.0 (ap (λ us. reading alternatives_of (parts ++ part ∷ below) us) b.1 ∙ h part below)
 
 pub not_entered : (f : Form) (ts : List Token) → BeginsNot f ts → StopsAt (form f ∷ []) ts (length ts)
 unfolding reading next
@@ -59,12 +59,12 @@ not_entered f (t ∷ ts) b = λ part below. rw b refl
 pub maybe_enters : (f : Form) (ts rest mid : List Token) (parts : List (Part Form)) → BeginsWith f ts parts mid → ReadsTo parts mid rest → ReadsTo (maybe f ∷ []) ts rest
 unfolding reading next
 maybe_enters f [] rest mid parts b h = absurd b
-maybe_enters f (t ∷ ts) rest mid parts b h = λ part below. rw b.0 (ap (λ us. reading rows_of (parts ++ part ∷ below) us) b.1 ∙ h part below)
+maybe_enters f (t ∷ ts) rest mid parts b h = λ part below. rw b.0 (ap (λ us. reading alternatives_of (parts ++ part ∷ below) us) b.1 ∙ h part below)
 
 pub maybe_stops : (f : Form) (ts mid : List Token) (left : ℕ) (parts : List (Part Form)) → BeginsWith f ts parts mid → StopsAt parts mid left → StopsAt (maybe f ∷ []) ts left
 unfolding reading next
 maybe_stops f [] mid left parts b h = absurd b
-maybe_stops f (t ∷ ts) mid left parts b h = λ part below. rw b.0 (ap (λ us. reading rows_of (parts ++ part ∷ below) us) b.1 ∙ h part below)
+maybe_stops f (t ∷ ts) mid left parts b h = λ part below. rw b.0 (ap (λ us. reading alternatives_of (parts ++ part ∷ below) us) b.1 ∙ h part below)
 
 pub left_out : (f : Form) (ts : List Token) → BeginsNot f ts → ReadsTo (maybe f ∷ []) ts ts
 unfolding reading next
@@ -74,16 +74,16 @@ left_out f (t ∷ ts) b = λ part below. rw b refl
 -- FURTHER TURNS
 
 pub turn : (f : Form) (ts rest mid : List Token) (parts : List (Part Form)) (part : Part Form) (below : List (Part Form)) → BeginsWith f ts parts mid → ReadsTo parts mid rest
-    → reading rows_of (more f ∷ part ∷ below) ts ≡ reading rows_of (more f ∷ part ∷ below) rest
+    → reading alternatives_of (more f ∷ part ∷ below) ts ≡ reading alternatives_of (more f ∷ part ∷ below) rest
 unfolding reading next
 turn f [] rest mid parts part below b h = absurd b
-turn f (t ∷ ts) rest mid parts part below b h = rw b.0 (ap (λ us. reading rows_of (parts ++ more f ∷ part ∷ below) us) b.1 ∙ h (more f) (part ∷ below))
+turn f (t ∷ ts) rest mid parts part below b h = rw b.0 (ap (λ us. reading alternatives_of (parts ++ more f ∷ part ∷ below) us) b.1 ∙ h (more f) (part ∷ below))
 
 pub turn_stops : (f : Form) (ts mid : List Token) (left : ℕ) (parts : List (Part Form)) (part : Part Form) (below : List (Part Form)) → BeginsWith f ts parts mid → StopsAt parts mid left
-    → reading rows_of (more f ∷ part ∷ below) ts ≡ wanted left
+    → reading alternatives_of (more f ∷ part ∷ below) ts ≡ wanted left
 unfolding reading next
 turn_stops f [] mid left parts part below b h = absurd b
-turn_stops f (t ∷ ts) mid left parts part below b h = rw b.0 (ap (λ us. reading rows_of (parts ++ more f ∷ part ∷ below) us) b.1 ∙ h (more f) (part ∷ below))
+turn_stops f (t ∷ ts) mid left parts part below b h = rw b.0 (ap (λ us. reading alternatives_of (parts ++ more f ∷ part ∷ below) us) b.1 ∙ h (more f) (part ∷ below))
 
 pub no_turn : (f : Form) (ts : List Token) → BeginsNot f ts → ReadsTo (more f ∷ []) ts ts
 unfolding reading next
@@ -129,13 +129,13 @@ maybe_left_out p f ts e b = rw e (left_out f ts b)
 -- ALL PARTS OF A FORM, ONE BY ONE
 
 pub part_read : (xs : List TablePart) (i : ℕ) (d : TablePart) (rest mid : List Token) (part : Part Form) (below : List (Part Form)) → i < length xs → ReadsTo (part_of (get_or xs i d) ∷ []) rest mid
-    → reading rows_of (parts_of (drop i xs) ++ part ∷ below) rest ≡ reading rows_of (parts_of (drop (i + 1) xs) ++ part ∷ below) mid
+    → reading alternatives_of (parts_of (drop i xs) ++ part ∷ below) rest ≡ reading alternatives_of (parts_of (drop (i + 1) xs) ++ part ∷ below) mid
 part_read xs i d rest mid part below within h =
     let next : i + 1 ≡ suc i = omega arith in
     rw next (rw (drop-cons xs i d within) (onward (part_of (get_or xs i d)) rest mid (parts_of (drop (suc i) xs)) part below h))
 
 pub part_stops : (xs : List TablePart) (i : ℕ) (d : TablePart) (rest : List Token) (left : ℕ) (part : Part Form) (below : List (Part Form)) → i < length xs → StopsAt (part_of (get_or xs i d) ∷ []) rest left
-    → reading rows_of (parts_of (drop i xs) ++ part ∷ below) rest ≡ wanted left
+    → reading alternatives_of (parts_of (drop i xs) ++ part ∷ below) rest ≡ wanted left
 part_stops xs i d rest left part below within h = rw (drop-cons xs i d within) (stopped (part_of (get_or xs i d)) rest left (parts_of (drop (suc i) xs)) part below h)
 
 -- UP TO THE WORD PROCEDURE
@@ -170,39 +170,39 @@ may_end_here : (may : Bool) (rest : List Token) → (if may then ends [] else wa
 may_end_here true rest h = is_whole rest [] (same_end rest [] (sym h))
 may_end_here false rest h = absurd (no_end 0 rest h)
 
-goes_to_end : (left : Option (List (Part Form))) (t : Token) (ts rest : List Token) → goes_on left (λ parts. reading rows_of parts ts) (length (t ∷ ts)) ≡ ends rest
-    → ((parts : List (Part Form)) → reading rows_of parts ts ≡ ends rest → IsEnd rest ts) → IsEnd rest (t ∷ ts)
+goes_to_end : (left : Option (List (Part Form))) (t : Token) (ts rest : List Token) → goes_on left (λ parts. reading alternatives_of parts ts) (length (t ∷ ts)) ≡ ends rest
+    → ((parts : List (Part Form)) → reading alternatives_of parts ts ≡ ends rest → IsEnd rest ts) → IsEnd rest (t ∷ ts)
 goes_to_end None t ts rest h k = absurd (no_end (length (t ∷ ts)) rest h)
 goes_to_end (Some parts) t ts rest h k = longer t ts rest (k parts h)
 
-pub end_of_reading : (parts : List (Part Form)) (ts rest : List Token) → reading rows_of parts ts ≡ ends rest → IsEnd rest ts
+pub end_of_reading : (parts : List (Part Form)) (ts rest : List Token) → reading alternatives_of parts ts ≡ ends rest → IsEnd rest ts
 unfolding reading
 end_of_reading [] ts rest h = is_whole rest ts (same_end rest ts (sym h))
 end_of_reading (part ∷ parts) [] rest h = may_end_here (may_end (part ∷ parts)) rest h
-end_of_reading (part ∷ parts) (t ∷ ts) rest h = goes_to_end (next rows_of (part ∷ parts) t) t ts rest h (λ left. end_of_reading left ts rest)
+end_of_reading (part ∷ parts) (t ∷ ts) rest h = goes_to_end (next alternatives_of (part ∷ parts) t) t ts rest h (λ left. end_of_reading left ts rest)
 
 -- the word PROCEDURE behind the parts before it
-procedure_read : (rest behind : List Token) (t : Token) → rest ≡ t ∷ behind → is (reserved (codes "PROCEDURE")) t ≡ true → reading rows_of (token (reserved (codes "PROCEDURE")) ∷ []) rest ≡ ends behind
+procedure_read : (rest behind : List Token) (t : Token) → rest ≡ t ∷ behind → is (reserved (codes "PROCEDURE")) t ≡ true → reading alternatives_of (token (reserved (codes "PROCEDURE")) ∷ []) rest ≡ ends behind
 unfolding reading next
 procedure_read rest behind t front h = rw front (rw h refl)
 
-procedure_wanted : (rest : List Token) → begins (is (reserved (codes "PROCEDURE"))) rest ≡ false → reading rows_of (token (reserved (codes "PROCEDURE")) ∷ []) rest ≡ wanted (length rest)
+procedure_wanted : (rest : List Token) → begins (is (reserved (codes "PROCEDURE"))) rest ≡ false → reading alternatives_of (token (reserved (codes "PROCEDURE")) ∷ []) rest ≡ wanted (length rest)
 unfolding reading next
 procedure_wanted [] h = refl
 procedure_wanted (t ∷ ts) h = rw h refl
 
 pub place_of_procedure : (parts : List (Part Form)) (ts rest : List Token) → ReadsTo parts ts rest → begins (is (reserved (codes "PROCEDURE"))) rest ≡ true → length rest ≤ length ts
-    → (reading rows_of (parts ++ token (reserved (codes "PROCEDURE")) ∷ []) ts ≡ ends (drop (length ts - length rest + 1) ts)) × (length ts - length rest < length ts)
+    → (reading alternatives_of (parts ++ token (reserved (codes "PROCEDURE")) ∷ []) ts ≡ ends (drop (length ts - length rest + 1) ts)) × (length ts - length rest < length ts)
 place_of_procedure parts ts [] reads h within = absurd (false_is_true h)
 place_of_procedure parts ts (t ∷ behind) reads h within =
-    let read : reading rows_of (parts ++ token (reserved (codes "PROCEDURE")) ∷ []) ts ≡ ends behind = reads (token (reserved (codes "PROCEDURE"))) [] ∙ procedure_read (t ∷ behind) behind t refl h in
+    let read : reading alternatives_of (parts ++ token (reserved (codes "PROCEDURE")) ∷ []) ts ≡ ends behind = reads (token (reserved (codes "PROCEDURE"))) [] ∙ procedure_read (t ∷ behind) behind t refl h in
     let places : length ts - length (t ∷ behind) + 1 ≡ length ts - length behind = omega (arith, within) in
     let end : IsEnd behind ts = end_of_reading _ ts behind read in
     (rw places (read ∙ ap ends end.1), omega (arith, within))
 
 pub no_procedure : (parts : List (Part Form)) (ts rest : List Token) → ReadsTo parts ts rest → begins (is (reserved (codes "PROCEDURE"))) rest ≡ false
-    → reading rows_of (parts ++ token (reserved (codes "PROCEDURE")) ∷ []) ts ≡ wanted (length rest)
+    → reading alternatives_of (parts ++ token (reserved (codes "PROCEDURE")) ∷ []) ts ≡ wanted (length rest)
 no_procedure parts ts rest reads h = reads (token (reserved (codes "PROCEDURE"))) [] ∙ procedure_wanted rest h
 
-pub stopped_before : (parts : List (Part Form)) (ts : List Token) (left : ℕ) → StopsAt parts ts left → reading rows_of (parts ++ token (reserved (codes "PROCEDURE")) ∷ []) ts ≡ wanted left
+pub stopped_before : (parts : List (Part Form)) (ts : List Token) (left : ℕ) → StopsAt parts ts left → reading alternatives_of (parts ++ token (reserved (codes "PROCEDURE")) ∷ []) ts ≡ wanted left
 stopped_before parts ts left stops = stops (token (reserved (codes "PROCEDURE"))) []

@@ -8,7 +8,7 @@ use Rattle.cob_lex.specs.Lexing.{lines_tokens, text_tokens, tokens_of}
 use Rattle.cob_forms.specs.Forms.{next, reading}
 use Rattle.cob_forms.specs.Faults.{fault, first}
 use Rattle.cob_lex.proofs.Programs.{echo, leaver, orders, source}
-use Rattle.cob_data.specs.Forms.{data_division, rows_of}
+use Rattle.cob_data.specs.Forms.{data_division, alternatives_of}
 use Rattle.cob_data.specs.Faults.{Limits, data_fault, faults_by}
 use Rattle.cob_data.proofs.Sources.{tokens_in, items, entries}
 
@@ -20,7 +20,7 @@ abbrev few : Limits
 few = record { names = 3; characters = 10 }
 
 abbrev within_few : List Token → Option SourceFault
-within_few ts = first (faults_by few ts (reading rows_of data_division ts))
+within_few ts = first (faults_by few ts (reading alternatives_of data_division ts))
 
 -- the fault of a source where 3 names and 10 characters are the most
 abbrev few_in : List ℕ → Option SourceFault
@@ -375,6 +375,31 @@ record_at_stop = refl
 record_length : told_in (entries (codes "       CD  C INPUT." ∷ codes "       01  R PIC X(86)." ∷ [])) ≡ Some (fault 6 12 faults.WrongLength)
 unfolding lines_tokens text_tokens front_of next reading
 record_length = refl
+
+-- an elementary record has the characters of its picture, whatever stands below it
+elementary_record : told_in (entries (codes "       CD  C INPUT." ∷ codes "       01  R PIC X(87)." ∷ codes "           02 B PIC X." ∷ [])) ≡ Some (fault 7 12 faults.WrongKind)
+unfolding lines_tokens text_tokens front_of next reading
+elementary_record = refl
+
+-- and it counts where a further item is only begun
+elementary_record_counts : told_in (entries (codes "       CD  C INPUT." ∷ codes "       01  R PIC X(88)." ∷ codes "           02 PIC X." ∷ [])) ≡ Some (fault 6 12 faults.WrongLength)
+unfolding lines_tokens text_tokens front_of next reading
+elementary_record_counts = refl
+
+-- a group does not
+group_record_counts : told_in (entries (codes "       CD  C INPUT." ∷ codes "       01  R." ∷ codes "           02 A PIC X(88)." ∷ codes "           02 PIC X." ∷ [])) ≡ Some (fault 8 15 faults.WantedWord)
+unfolding lines_tokens text_tokens front_of next reading
+group_record_counts = refl
+
+-- so has one in Working-Storage
+elementary_item : told_in (items (codes "       01  A PIC X(2000)." ∷ codes "           02 B PIC X." ∷ [])) ≡ Some (fault 6 12 faults.WrongKind)
+unfolding lines_tokens text_tokens front_of next reading
+elementary_item = refl
+
+-- what ranks lower is not below a group
+lower_than_group : told_in (items (codes "       01  A." ∷ codes "           02 B PIC X(2000)." ∷ codes "           00 C PIC X." ∷ [])) ≡ Some (fault 7 12 faults.WrongKind)
+unfolding lines_tokens text_tokens front_of next reading
+lower_than_group = refl
 
 -- no more and no fewer
 record_of_area : told_in (entries (codes "       CD  C INPUT." ∷ codes "       01  R." ∷ codes "           02 A PIC 9(18)." ∷ codes "           02 B PIC X(69)." ∷ codes "       01  S PIC X(87)." ∷ [])) ≡ None

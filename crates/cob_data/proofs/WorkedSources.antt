@@ -9,10 +9,10 @@ use Rattle.cob_forms.specs.Forms.{next, reading}
 use Rattle.cob_forms.specs.Faults.{fault, wanted_word}
 use Rattle.cob_lex.proofs.Programs.{echo, leaver, orders, source}
 use Rattle.cob_data.proofs.Sources.{tokens_in, items, entries}
-use Rattle.cob_data.specs.Forms.{data_division, rows_of}
+use Rattle.cob_data.specs.Forms.{data_division, alternatives_of}
 
 abbrev asked_of : List Token → Option SourceFault
-asked_of tokens = wanted_word tokens (reading rows_of data_division tokens)
+asked_of tokens = wanted_word tokens (reading alternatives_of data_division tokens)
 
 -- where another word or sign is wanted in a source
 abbrev asked : List ℕ → Option SourceFault

@@ -53,24 +53,24 @@ output_words =
     (codes "COUNT", destination_count) ∷ (codes "LENGTH", text_length) ∷ (codes "STATUS", status_key)
     ∷ (codes "TABLE", destination_table) ∷ (codes "ERROR", error_key) ∷ (codes "DESTINATION", destination) ∷ []
 
--- the first row whose word stands in a clause
+-- the first pair whose word stands in a clause
 abbrev pub told_by : {A : Type 0} → List (List ℕ × A) → List Token → Option (List ℕ × A)
-told_by words clause = find (λ row. has row.0 clause) words
+told_by words clause = find (λ pair. has pair.0 clause) words
 
 -- the field that a clause is for
 unfoldable pub input_field_of : List Token → Option InputField
-input_field_of clause = option_map (λ row. row.1) (told_by input_words clause)
+input_field_of clause = option_map (λ pair. pair.1) (told_by input_words clause)
 
 unfoldable pub output_field_of : List Token → Option OutputField
-output_field_of clause = option_map (λ row. row.1) (told_by output_words clause)
+output_field_of clause = option_map (λ pair. pair.1) (told_by output_words clause)
 
-abbrev pub word_of_row : {A : Type 0} → Option (List ℕ × A) → List ℕ
-word_of_row None = []
-word_of_row (Some row) = row.0
+abbrev pub word_of_pair : {A : Type 0} → Option (List ℕ × A) → List ℕ
+word_of_pair None = []
+word_of_pair (Some pair) = pair.0
 
 abbrev pub clause_word : Bool → List Token → List ℕ
-clause_word true clause = word_of_row (told_by input_words clause)
-clause_word false clause = word_of_row (told_by output_words clause)
+clause_word true clause = word_of_pair (told_by input_words clause)
+clause_word false clause = word_of_pair (told_by output_words clause)
 
 abbrev pub number_in : List Token → Option Token
 number_in ts = find (is (of_kind tokens.Number)) ts

@@ -21,7 +21,7 @@ use Rattle.cob_data.specs.declared.tree.Picture.{Picture}
 use Rattle.cob_data.specs.declared.tree.ItemPlace.{ItemPlace}
 use Rattle.cob_data.specs.declared.tree.Value.{Value}
 use Rattle.cob_data.specs.declared.tree.Value.TheVariants as values
-use Rattle.cob_data.specs.Forms.{data_division, rows_of}
+use Rattle.cob_data.specs.Forms.{data_division, alternatives_of}
 use Rattle.cob_data.specs.Entries.{Run, told, entries_of, runs_of, storage_items, cd_runs, first_token, second_token, last_token, chosen_word, picture_in, value_in}
 use Rattle.cob_data.specs.Clauses.{OutputField, destination_count, text_length, status_key, destination_table, error_key, destination, number_in, is_input, body_of, lists_names, is_name_or_filler, clauses_of, input_field_of, output_field_of}
 use Rattle.cob_data.specs.Levels.{own_size, sort_of_item, length_of, records_of}
@@ -147,7 +147,7 @@ pub record IsTold (named : Token) (before : List Token) (d : DataDivision) : Typ
 -- Of these tokens, so many stand before the word PROCEDURE, with no other one wanted up to it, and they tell
 -- these divisions. The sixth token, behind IDENTIFICATION DIVISION. PROGRAM-ID., is the program's name.
 pub record IsDivisionOf (ts : List Token) (place : ℕ) (d : DataDivision) : Type 0 where
-  pub complete : reading rows_of data_division ts ≡ ends (drop (place + 1) ts)
+  pub complete : reading alternatives_of data_division ts ≡ ends (drop (place + 1) ts)
   pub within : place < length ts
   pub program : option_map name_of (slice_get ts 5) ≡ Some d.program
   pub source_computer : word_behind (codes "SOURCE-COMPUTER") (take place ts) ≡ d.source_computer

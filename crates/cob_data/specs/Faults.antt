@@ -1,24 +1,27 @@
 -- The faults of the divisions before the Procedure Division.
-use Rattle.std.specs.Prelude.{ℕ, ◌+◌, Bool, true, false, not, ◌&&◌, ◌||◌, ◌==◌, nat_le, nat_lt, if◌then◌else◌, List, [], ◌∷◌, ◌++◌, length, take, drop, sum, map, filter, flat_map, codes, bytes_eq, is_none, Option, Some, None, option_to_list}
+use Rattle.std.specs.Prelude.{ℕ, suc, ◌+◌, Bool, true, false, not, ◌&&◌, ◌||◌, ◌==◌, nat_le, nat_lt, if◌then◌else◌, List, [], ◌∷◌, ◌++◌, length, take, drop, sum, map, filter, flat_map, codes, bytes_eq, is_none, Option, Some, None, option_to_list}
 use Rattle.std.specs.List.{list_any}
+use Rattle.com_cd.specs.declared.output_area.TheConstants.{MAX_OCCURRENCES}
 use Rattle.cob_data.specs.Numerals.{numeral}
 use Rattle.cob_lex.specs.declared.fault.SourceFault.{SourceFault}
 use Rattle.cob_lex.specs.declared.fault.SourceKind.{SourceKind}
 use Rattle.cob_lex.specs.declared.fault.SourceKind.TheVariants as faults
 use Rattle.cob_lex.specs.declared.token.Token.{Token}
 use Rattle.cob_lex.specs.declared.token.TokenKind.TheVariants as tokens
-use Rattle.cob_forms.specs.Sorts.{reserved, name, of_kind, is}
+use Rattle.cob_forms.specs.Sorts.{reserved, name, of_kind, is, in_area_a}
 use Rattle.cob_forms.specs.Forms.{Reading, reading}
 use Rattle.cob_forms.specs.Faults.{fault, first, wanted_word, counting}
+use Rattle.cob_data.specs.declared.names.TheConstants.{MAX_DATA_NAMES}
+use Rattle.cob_data.specs.declared.characters.TheConstants.{MAX_CHARACTERS}
 use Rattle.cob_data.specs.declared.tree.ItemSort.{ItemSort}
 use Rattle.cob_data.specs.declared.tree.ItemSort.TheVariants.{Characters, Digits}
 use Rattle.cob_data.specs.declared.tree.Value.{Value}
 use Rattle.cob_data.specs.declared.tree.Value.TheVariants as values
-use Rattle.cob_data.specs.Forms.{data_division, rows_of}
+use Rattle.cob_data.specs.Forms.{data_division, alternatives_of}
 use Rattle.cob_data.specs.Entries.{Run, all_but_last, told, entries_of, described, runs_of, is_item, is_cd, first_token, second_token, picture_in, value_in}
 use Rattle.cob_data.specs.Clauses.{is_input, clauses_of, clause_word, area_length}
 use Rattle.cob_data.specs.Pictures.{size_of, sort_of}
-use Rattle.cob_data.specs.Levels.{is_level, rank_of, rank, is_group, own_size, sort_of_item, records_of}
+use Rattle.cob_data.specs.Levels.{is_level, rank_of, rank, is_group, own_size, sort_of_item, below, records_of}
 use Rattle.cob_data.specs.Divisions.{value_of}
 
 abbrev pub at : SourceKind → Token → SourceFault
@@ -32,9 +35,6 @@ unless true kind t = []
 unless false kind t = at_any kind (option_to_list t)
 
 -- COLUMNS
-
-abbrev pub in_area_a : Token → Bool
-in_area_a t = nat_le 8 t.column && nat_le t.column 11
 
 -- the first word of a header, CD, and the levels 01 and 77 are in area A
 abbrev pub wants_area_a : Token → Bool
@@ -92,11 +92,11 @@ name_past limit names = at_any faults.OverLimit (take 1 (drop limit names))
 abbrev pub second_initials : List (List Token) → List SourceFault
 second_initials entries = at_any faults.TwoInitial (drop 1 (filter (is (reserved (codes "INITIAL"))) (flat_map (λ e. e) (filter is_cd entries))))
 
--- a number of occurrences is 1 to 8
+-- a number of occurrences is at least 1 and no more than an output CD may have
 abbrev pub bad_tables : List (List Token) → List SourceFault
 bad_tables entries =
     at_any faults.OverLimit (filter
-    (λ t. is (of_kind tokens.Number) t && not (nat_le 1 (numeral t.text) && nat_le (numeral t.text) 8)) (flat_map (λ e. e) (filter is_cd entries)))
+    (λ t. is (of_kind tokens.Number) t && not (nat_le 1 (numeral t.text) && nat_le (numeral t.text) MAX_OCCURRENCES)) (flat_map (λ e. e) (filter is_cd entries)))
 
 -- CLAUSES
 
@@ -202,18 +202,37 @@ abbrev pub first_item : List (List Token) → List Token
 first_item [] = []
 first_item (item ∷ items) = item
 
--- A record has at most 2,000 characters, and over a CD just those of the area.
+-- How many items the first one of a record is made of: a group of itself and all below it, and an elementary
+-- item of itself alone, whatever stands behind it.
+abbrev pub extent_length : List (List Token) → ℕ
+extent_length [] = 0
+extent_length (item ∷ items) = suc (if is_group (sort_of_item item) then length (below (rank item) items) else 0)
+
+abbrev pub extent : List (List Token) → List (List Token)
+extent items = take (extent_length items) items
+
+-- An item that begins a record has at most 2,000 characters, and over a CD just those of the area.
 abbrev pub is_record_right : Option ℕ → ℕ → Bool
 is_record_right None n = true
 is_record_right (Some area) n = n == area
 
-abbrev pub record_faults : Option ℕ → List (List Token) → List SourceFault
-record_faults area items =
+abbrev pub size_faults : Option ℕ → List (List Token) → List SourceFault
+size_faults area items =
     unless (list_any (λ item. is_bad (picture_in item)) items || nat_le (record_size items) 2000) faults.OverLimit (first_token (first_item items))
     ++ unless (list_any (λ item. is_bad (picture_in item)) items || is_record_right area (record_size items)) faults.WrongLength (second_token (first_item items))
 
-abbrev pub counted : {A : Type 0} → Bool → List A → List A
-counted is_last list = if is_last then all_but_last list else list
+abbrev pub record_faults : Option ℕ → List (List Token) → List SourceFault
+record_faults area items = size_faults area (extent items)
+
+-- A record counts where a further token stands behind what its first item is made of. Behind the last record of a
+-- text none does, unless items follow in it that are no part of that one.
+abbrev pub is_counted : Bool → List (List (List Token)) → List (List Token) → Bool
+is_counted is_last behind items = (not is_last || nat_lt 0 (length behind)) || nat_lt (extent_length items) (length items)
+
+abbrev pub records_faults : Bool → Option ℕ → List (List (List Token)) → List SourceFault
+records_faults is_last area [] = []
+records_faults is_last area (items ∷ records) =
+    (if is_counted is_last records items then record_faults area items else []) ++ records_faults is_last area records
 
 abbrev pub over : Run → Option ℕ
 over run = if is_cd run.head then Some (area_length run.head) else None
@@ -221,7 +240,7 @@ over run = if is_cd run.head then Some (area_length run.head) else None
 abbrev pub run_faults : Bool → Run → List SourceFault
 run_faults is_last run =
     level_faults (is_cd run.head) [] run.items ++ whole_faults is_last (is_cd run.head) run.items
-    ++ flat_map (record_faults (over run)) (counted is_last (records_of run.items))
+    ++ records_faults is_last (over run) (records_of run.items)
 
 abbrev pub runs_faults : List Run → List SourceFault
 runs_faults [] = []
@@ -243,7 +262,7 @@ pub record Limits : Type 0 where
   pub characters : ℕ
 
 abbrev pub limits : Limits
-limits = record { names = 2000; characters = 65536 }
+limits = record { names = MAX_DATA_NAMES; characters = MAX_CHARACTERS }
 
 -- the faults that tokens have apart from where another one is wanted
 abbrev pub other_faults : Limits → List Token → List SourceFault
@@ -259,7 +278,7 @@ faults_by limits ts read = other_faults limits (counting ts read) ++ option_to_l
 
 -- all faults of the tokens of a source up to the word PROCEDURE
 abbrev pub data_faults : List Token → List SourceFault
-data_faults ts = faults_by limits ts (reading rows_of data_division ts)
+data_faults ts = faults_by limits ts (reading alternatives_of data_division ts)
 
 -- the fault that is told
 abbrev pub data_fault : List Token → Option SourceFault

@@ -2,7 +2,7 @@
 use Rattle.std.specs.Prelude.{ℕ, List, [], ◌∷◌, ◌++◌, codes}
 use Rattle.cob_lex.specs.declared.token.TokenKind.TheVariants as tokens
 use Rattle.cob_forms.specs.Sorts.{Sort, reserved, name, any_word, of_kind}
-use Rattle.cob_forms.specs.Forms.{Part, Rows, token, form, maybe, more, with_tail}
+use Rattle.cob_forms.specs.Forms.{Part, Alternatives, token, form, maybe, more, with_tail}
 
 pub data Form : Type 0 where
   environment configuration source_computer object_computer working_storage communication : Form
@@ -20,39 +20,39 @@ abbrev pub period : Sort
 period = of_kind tokens.Period
 
 -- [IS] name
-abbrev pub is_name : List (Part Form)
-is_name = maybe word_is ∷ a_name ∷ []
+abbrev pub is_and_name : List (Part Form)
+is_and_name = maybe word_is ∷ a_name ∷ []
 
 -- PIC or PICTURE, with what may follow its picture
-abbrev pub picture_rows : List (Part Form) → Rows Form
-picture_rows parts =
+abbrev pub picture_alternatives : List (Part Form) → Alternatives Form
+picture_alternatives parts =
     (reserved (codes "PIC"), maybe word_is ∷ token (of_kind tokens.Picture) ∷ parts)
     ∷ (reserved (codes "PICTURE"), maybe word_is ∷ token (of_kind tokens.Picture) ∷ parts) ∷ []
 
-abbrev pub value_rows : List (Part Form) → Rows Form
-value_rows parts = (reserved (codes "VALUE"), maybe word_is ∷ form value ∷ parts) ∷ []
+abbrev pub value_alternatives : List (Part Form) → Alternatives Form
+value_alternatives parts = (reserved (codes "VALUE"), maybe word_is ∷ form value ∷ parts) ∷ []
 
 -- the queue names and the source, behind SYMBOLIC or without it
-abbrev pub symbolic_rows : List (Part Form) → Rows Form
-symbolic_rows parts =
+abbrev pub symbolic_alternatives : List (Part Form) → Alternatives Form
+symbolic_alternatives parts =
     (reserved (codes "QUEUE"), parts) ∷ (reserved (codes "SUB-QUEUE-1"), parts) ∷ (reserved (codes "SUB-QUEUE-2"), parts)
     ∷ (reserved (codes "SUB-QUEUE-3"), parts) ∷ (reserved (codes "SOURCE"), parts) ∷ []
 
 -- a clause of an input CD
-abbrev pub in_clause_rows : Rows Form
-in_clause_rows =
-    (reserved (codes "SYMBOLIC"), form symbolic_field ∷ []) ∷ symbolic_rows is_name
-    ++ (reserved (codes "MESSAGE"), form message_field ∷ is_name)
-    ∷ (reserved (codes "TEXT"), the (codes "LENGTH") ∷ is_name) ∷ (reserved (codes "END"), the (codes "KEY") ∷ is_name)
-    ∷ (reserved (codes "STATUS"), the (codes "KEY") ∷ is_name) ∷ (reserved (codes "COUNT"), is_name) ∷ []
+abbrev pub in_clause_alternatives : Alternatives Form
+in_clause_alternatives =
+    (reserved (codes "SYMBOLIC"), form symbolic_field ∷ []) ∷ symbolic_alternatives is_and_name
+    ++ (reserved (codes "MESSAGE"), form message_field ∷ is_and_name)
+    ∷ (reserved (codes "TEXT"), the (codes "LENGTH") ∷ is_and_name) ∷ (reserved (codes "END"), the (codes "KEY") ∷ is_and_name)
+    ∷ (reserved (codes "STATUS"), the (codes "KEY") ∷ is_and_name) ∷ (reserved (codes "COUNT"), is_and_name) ∷ []
 
 -- a clause of an output CD
-abbrev pub out_clause_rows : Rows Form
-out_clause_rows =
+abbrev pub out_clause_alternatives : Alternatives Form
+out_clause_alternatives =
     (reserved (codes "DESTINATION"), form destination_clause ∷ [])
-    ∷ (reserved (codes "SYMBOLIC"), the (codes "DESTINATION") ∷ is_name)
-    ∷ (reserved (codes "TEXT"), the (codes "LENGTH") ∷ is_name)
-    ∷ (reserved (codes "STATUS"), the (codes "KEY") ∷ is_name) ∷ (reserved (codes "ERROR"), the (codes "KEY") ∷ is_name) ∷ []
+    ∷ (reserved (codes "SYMBOLIC"), the (codes "DESTINATION") ∷ is_and_name)
+    ∷ (reserved (codes "TEXT"), the (codes "LENGTH") ∷ is_and_name)
+    ∷ (reserved (codes "STATUS"), the (codes "KEY") ∷ is_and_name) ∷ (reserved (codes "ERROR"), the (codes "KEY") ∷ is_and_name) ∷ []
 
 -- the other ten of the eleven names of an input CD, and then its end
 abbrev pub ten_more : List (Part Form)
@@ -61,45 +61,45 @@ ten_more =
     ∷ form name_or_filler ∷ form name_or_filler ∷ form name_or_filler ∷ form name_or_filler ∷ form name_or_filler
     ∷ token period ∷ []
 
-abbrev pub direction_rows : Rows Form
-direction_rows =
+abbrev pub direction_alternatives : Alternatives Form
+direction_alternatives =
     (reserved (codes "INITIAL"), the (codes "INPUT") ∷ form input_body ∷ [])
     ∷ (reserved (codes "INPUT"), form input_body ∷ []) ∷ (reserved (codes "OUTPUT"), form output_body ∷ []) ∷ []
 
 -- each form by the sorts with which it begins
-abbrev pub rows_of : Form → Rows Form
-rows_of environment = (reserved (codes "ENVIRONMENT"), the (codes "DIVISION") ∷ token period ∷ maybe configuration ∷ []) ∷ []
-rows_of configuration =
+abbrev pub alternatives_of : Form → Alternatives Form
+alternatives_of environment = (reserved (codes "ENVIRONMENT"), the (codes "DIVISION") ∷ token period ∷ maybe configuration ∷ []) ∷ []
+alternatives_of configuration =
     (reserved (codes "CONFIGURATION"), the (codes "SECTION") ∷ token period ∷ maybe source_computer ∷ maybe object_computer ∷ []) ∷ []
-rows_of source_computer = (reserved (codes "SOURCE-COMPUTER"), token period ∷ token any_word ∷ token period ∷ []) ∷ []
-rows_of object_computer = (reserved (codes "OBJECT-COMPUTER"), token period ∷ token any_word ∷ token period ∷ []) ∷ []
-rows_of working_storage = (reserved (codes "WORKING-STORAGE"), the (codes "SECTION") ∷ token period ∷ more item ∷ []) ∷ []
-rows_of communication = (reserved (codes "COMMUNICATION"), the (codes "SECTION") ∷ token period ∷ more cd_entry ∷ []) ∷ []
-rows_of item = (of_kind tokens.Number, form name_or_filler ∷ form clauses ∷ []) ∷ []
-rows_of name_or_filler = (name, []) ∷ (reserved (codes "FILLER"), []) ∷ []
-rows_of clauses = (period, []) ∷ picture_rows (form behind_picture ∷ []) ++ value_rows (form behind_value ∷ [])
-rows_of behind_picture = (period, []) ∷ value_rows (token period ∷ [])
-rows_of behind_value = (period, []) ∷ picture_rows (token period ∷ [])
-rows_of value =
+alternatives_of source_computer = (reserved (codes "SOURCE-COMPUTER"), token period ∷ token any_word ∷ token period ∷ []) ∷ []
+alternatives_of object_computer = (reserved (codes "OBJECT-COMPUTER"), token period ∷ token any_word ∷ token period ∷ []) ∷ []
+alternatives_of working_storage = (reserved (codes "WORKING-STORAGE"), the (codes "SECTION") ∷ token period ∷ more item ∷ []) ∷ []
+alternatives_of communication = (reserved (codes "COMMUNICATION"), the (codes "SECTION") ∷ token period ∷ more cd_entry ∷ []) ∷ []
+alternatives_of item = (of_kind tokens.Number, form name_or_filler ∷ form clauses ∷ []) ∷ []
+alternatives_of name_or_filler = (name, []) ∷ (reserved (codes "FILLER"), []) ∷ []
+alternatives_of clauses = (period, []) ∷ picture_alternatives (form behind_picture ∷ []) ++ value_alternatives (form behind_value ∷ [])
+alternatives_of behind_picture = (period, []) ∷ value_alternatives (token period ∷ [])
+alternatives_of behind_value = (period, []) ∷ picture_alternatives (token period ∷ [])
+alternatives_of value =
     (of_kind tokens.Literal, []) ∷ (of_kind tokens.Number, []) ∷ (reserved (codes "SPACE"), []) ∷ (reserved (codes "SPACES"), [])
     ∷ (reserved (codes "ZERO"), []) ∷ (reserved (codes "ZEROS"), []) ∷ (reserved (codes "ZEROES"), []) ∷ []
-rows_of cd_entry = (reserved (codes "CD"), a_name ∷ form cd_use ∷ more item ∷ []) ∷ []
-rows_of cd_use = (reserved (codes "FOR"), form direction ∷ []) ∷ direction_rows
-rows_of direction = direction_rows
-rows_of input_body =
+alternatives_of cd_entry = (reserved (codes "CD"), a_name ∷ form cd_use ∷ more item ∷ []) ∷ []
+alternatives_of cd_use = (reserved (codes "FOR"), form direction ∷ []) ∷ direction_alternatives
+alternatives_of direction = direction_alternatives
+alternatives_of input_body =
     (period, []) ∷ (name, ten_more) ∷ (reserved (codes "FILLER"), ten_more)
-    ∷ with_tail (more in_clause ∷ token period ∷ []) in_clause_rows
-rows_of in_clause = in_clause_rows
-rows_of symbolic_field = symbolic_rows is_name
-rows_of message_field = (reserved (codes "DATE"), []) ∷ (reserved (codes "TIME"), []) ∷ (reserved (codes "COUNT"), []) ∷ []
-rows_of output_body = (period, []) ∷ with_tail (more out_clause ∷ token period ∷ []) out_clause_rows
-rows_of out_clause = out_clause_rows
-rows_of destination_clause =
-    (reserved (codes "COUNT"), is_name)
+    ∷ with_tail (more in_clause ∷ token period ∷ []) in_clause_alternatives
+alternatives_of in_clause = in_clause_alternatives
+alternatives_of symbolic_field = symbolic_alternatives is_and_name
+alternatives_of message_field = (reserved (codes "DATE"), []) ∷ (reserved (codes "TIME"), []) ∷ (reserved (codes "COUNT"), []) ∷ []
+alternatives_of output_body = (period, []) ∷ with_tail (more out_clause ∷ token period ∷ []) out_clause_alternatives
+alternatives_of out_clause = out_clause_alternatives
+alternatives_of destination_clause =
+    (reserved (codes "COUNT"), is_and_name)
     ∷ (reserved (codes "TABLE"), the (codes "OCCURS") ∷ token (of_kind tokens.Number) ∷ maybe word_times ∷ [])
     ∷ (reserved (codes "IS"), a_name ∷ []) ∷ (name, []) ∷ []
-rows_of word_is = (reserved (codes "IS"), []) ∷ []
-rows_of word_times = (reserved (codes "TIMES"), []) ∷ []
+alternatives_of word_is = (reserved (codes "IS"), []) ∷ []
+alternatives_of word_times = (reserved (codes "TIMES"), []) ∷ []
 
 -- the divisions up to the word PROCEDURE
 abbrev pub before_procedure : List (Part Form)

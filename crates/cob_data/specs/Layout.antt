@@ -24,6 +24,7 @@ use Rattle.cob_data.specs.declared.tree.OutputClause.TheVariants as clauses
 use Rattle.cob_data.specs.declared.tree.ItemPlace.{ItemPlace}
 use Rattle.cob_data.specs.declared.tree.Value.{Value}
 use Rattle.cob_data.specs.declared.tree.Value.TheVariants as values
+use Rattle.cob_data.specs.Clauses.{or_one}
 use Rattle.cob_data.specs.Levels.{rank_of}
 
 -- What a name stands for: data, and how often it occurs in a table; an input CD with its area; an output CD
@@ -91,10 +92,6 @@ first_number (n ∷ ns) = Some n
 
 abbrev pub table_of : List OutputClause → Option ℕ
 table_of list = first_number (filter_map table_number list)
-
-abbrev pub or_one : Option ℕ → ℕ
-or_one None = 1
-or_one (Some n) = n
 
 -- an output CD's name, by its clause, the area and how often its table occurs
 abbrev pub output_name : ℕ → Option ℕ → OutputClause → List Declared

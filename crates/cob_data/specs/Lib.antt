@@ -9,5 +9,6 @@ pub mod Levels
 pub mod Measured
 pub mod Divisions
 pub mod Layout
+pub mod Occurrences
 pub mod Faults
-pub mod Answers
+pub mod OpenLevels

@@ -8,7 +8,7 @@ use Rattle.cob_data.specs.declared.grammar.Form.{Form as TableForm}
 use Rattle.cob_data.specs.declared.grammar.Form.TheVariants as forms
 use Rattle.cob_data.specs.declared.grammar.Part.{Part as TablePart}
 use Rattle.cob_data.specs.declared.grammar.Part.TheVariants as parts
-use Rattle.cob_data.specs.declared.grammar.Row.{Row}
+use Rattle.cob_data.specs.declared.grammar.Alternative.{Alternative}
 use Rattle.cob_data.specs.declared.cds.OutputField.{OutputField as TableField}
 use Rattle.cob_data.specs.declared.cds.OutputField.TheVariants as fields
 use Rattle.cob_data.specs.Clauses as clauses
@@ -55,8 +55,8 @@ part_of (parts.More f) = more (form_of f)
 abbrev pub parts_of : List TablePart → List (Part all.Form)
 parts_of parts = map part_of parts
 
-abbrev pub row_of : Row → Sort × List (Part all.Form)
-row_of row = (sort_of row.0, parts_of row.1.now)
+abbrev pub alternative_of : Alternative → Sort × List (Part all.Form)
+alternative_of alternative = (sort_of alternative.0, parts_of alternative.1.now)
 
 -- the fields by which clauses of an output CD are told apart
 abbrev pub kind_of_field : TableField → clauses.OutputField

@@ -1,7 +1,7 @@
 //! The bodies of CD entries.
-ghost use Rattle.std.specs.Prelude.{◌≡◌, ◌≤◌, ◌++◌, ℕ, List, [], ◌∷◌, IfOk, MatchOption, filter, find, length, map, option_map, option_to_list};
+ghost use Rattle.std.specs.Prelude.{◌≡◌, ◌≤◌, ◌++◌, ℕ, List, [], ◌∷◌, IfOk, MatchOption, filter, find, length, map, option_map, option_to_list, unwrap_or};
 ghost use Rattle.cob_data.specs.Entries.{first_token, has, last_token, piece_length};
-ghost use Rattle.cob_data.specs.Clauses.{all_clauses, body_of, clauses_of, ends_clause, input_field_of, is_input, is_name_or_filler, lists_names, number_in, output_field_of};
+ghost use Rattle.cob_data.specs.Clauses.{all_clauses, body_of, clause_word, clauses_of, ends_clause, input_field_of, is_input, is_name_or_filler, lists_names, number_in, output_field_of};
 ghost use Rattle.cob_data.specs.Divisions.{body_by, initial_of, input_clause, input_clauses, name_if, output_clause, output_clause_by, output_clauses};
 ghost use Rattle.cob_data.specs.Tables.{kind_of_field};
 ghost use Rattle.cob_data.specs.declared.tree.InputField.{InputField};
@@ -40,7 +40,8 @@ pub(crate) enum OutputField {
     Destination,
 }
 
-/// The words by which the clauses of an output CD are told apart, likewise.
+/// The words by which the clauses of an output CD are told apart. DESTINATION is the last, since DESTINATION
+/// COUNT and DESTINATION TABLE have it too.
 const OUTPUT_WORDS: [(&[u8], OutputField); 6] = [
     (b"COUNT", OutputField::DestinationCount),
     (b"LENGTH", OutputField::TextLength),
@@ -51,7 +52,7 @@ const OUTPUT_WORDS: [(&[u8], OutputField); 6] = [
 ];
 
 /// Whether this reserved word stands in an entry or a clause.
-fn has(tokens: &[Token], word: &[u8]) -> bool
+pub(crate) fn has(tokens: &[Token], word: &[u8]) -> bool
     ensures { result ≡ has word.now tokens.now }
 {
     tokens.iter().any(|token| is_word(token, word))
@@ -123,7 +124,7 @@ fn clause_length(tokens: &[Token]) -> usize
 
 /// The clauses that are left, those behind which a further token stands.
 #[derive(Drop)]
-struct Clauses<'a> {
+pub(crate) struct Clauses<'a> {
     rest: &'a [Token],
 }
 
@@ -144,8 +145,8 @@ impl<'a> Clauses<'a> {
         Clauses { rest: body }
     }
 
-    /// The next clause.
-    fn next(&mut self) -> Option<&'a [Token]>
+    /// The next clause, unless it is the last and nothing stands behind it.
+    pub(crate) fn next(&mut self) -> Option<&'a [Token]>
         ensures { MatchOption result ((self.old ≡ []) × (self.new ≡ [])) (λ clause. self.old ≡ clause.now ∷ self.new) }
     {
         let (clause, rest) = self.rest.split_at(clause_length(self.rest));
@@ -165,13 +166,13 @@ fn input_field(clause: &[Token]) -> Option<InputField>
     first_told(&INPUT_WORDS, clause)
 }
 
-/// The field of the first row whose word stands in a clause.
-fn first_told(rows: &[(&[u8], InputField)], clause: &[Token]) -> Option<InputField>
-    ensures { result ≡ option_map {T = List ℕ × InputField} (λ row. row.1) (find (λ row. has row.0 clause.now) (map (λ row. (row.0.now, row.1)) rows.now)) }
+/// The field of the first pair whose word stands in a clause.
+fn first_told(pairs: &[(&[u8], InputField)], clause: &[Token]) -> Option<InputField>
+    ensures { result ≡ option_map {T = List ℕ × InputField} (λ pair. pair.1) (find (λ pair. has pair.0 clause.now) (map (λ pair. (pair.0.now, pair.1)) pairs.now)) }
 {
-    'rows: for row in rows {
-        if has(clause, row.0) {
-            return Some(row.1);
+    'pairs: for pair in pairs {
+        if has(clause, pair.0) {
+            return Some(pair.1);
         }
     }
     None
@@ -182,16 +183,39 @@ fn first_told(rows: &[(&[u8], InputField)], clause: &[Token]) -> Option<InputFie
 fn output_field(clause: &[Token]) -> Option<OutputField>
     ensures { option_map kind_of_field result ≡ output_field_of clause.now }
 {
-    'rows: for row in &OUTPUT_WORDS {
-        if has(clause, row.0) {
-            return Some(row.1);
+    'pairs: for pair in &OUTPUT_WORDS {
+        if has(clause, pair.0) {
+            return Some(pair.1);
         }
     }
     None
 }
 
+/// The word of the first pair whose word stands in a clause.
+fn word_told<F: Copy>(pairs: &[(&'static [u8], F)], clause: &[Token]) -> &'static [u8]
+    ensures { result.now ≡ unwrap_or (find (λ word. has word clause.now) (map (λ pair. pair.0.now) pairs.now)) [] }
+{
+    'pairs: for pair in pairs {
+        if has(clause, pair.0) {
+            return pair.0;
+        }
+    }
+    &[]
+}
+
+/// The word by which a clause is told from others of its CD.
+pub(crate) fn clause_word(is_input: bool, clause: &[Token]) -> &'static [u8]
+    ensures { result.now ≡ clause_word is_input clause.now }
+{
+    if is_input {
+        word_told(&INPUT_WORDS, clause)
+    } else {
+        word_told(&OUTPUT_WORDS, clause)
+    }
+}
+
 /// The clauses of a CD entry that has no names in their place.
-fn clauses_of(entry: &[Token]) -> Clauses
+pub(crate) fn clauses_of(entry: &[Token]) -> Clauses
     ensures { result ≡ clauses_of entry.now }
 {
     let body = body_of(entry);
@@ -202,8 +226,8 @@ fn clauses_of(entry: &[Token]) -> Clauses
     }
 }
 
-/// The number in a clause.
-fn number_in(clause: &[Token]) -> Option<&Token>
+/// The first number among some tokens.
+pub(crate) fn number_in(clause: &[Token]) -> Option<&Token>
     ensures { option_map (λ token. token.now) result ≡ number_in clause.now }
 {
     clause

@@ -1,30 +1,34 @@
 //! The divisions from the first token to the word PROCEDURE.
-ghost use Rattle.std.specs.Prelude.{◌≡◌, ◌+◌, ◌≤◌, ◌<◌, ◌&&◌, ◌++◌, IfErr, IfOk, MatchResult, Some, drop, false, length, not, option_map};
-ghost use Rattle.cob_forms.specs.Faults.{wanted_word};
+ghost use Rattle.std.specs.Prelude.{◌≡◌, ◌+◌, ◌≤◌, ◌<◌, ◌&&◌, ◌++◌, IfErr, IfOk, MatchResult, None, Some, drop, false, length, not, option_map};
+ghost use Rattle.cob_forms.specs.Faults.{at_first, before_wanted, first};
+ghost use Rattle.cob_lex.specs.declared.fault.SourceKind.TheVariants.{WantedWord};
 ghost use Rattle.cob_forms.specs.Forms.{ends, reading, wanted};
-ghost use Rattle.cob_data.specs.Forms.{data_division, rows_of};
+ghost use Rattle.cob_data.specs.Forms.{data_division, alternatives_of};
 ghost use Rattle.cob_data.specs.Entries.{cd_runs, chosen_word, entries_of, leads, parted, run, second_token, storage_items, told};
 ghost use Rattle.cob_data.specs.Divisions.{IsDivisionOf, IsTold, cd_named, cds_from, items_by_area, word_behind};
 ghost use Rattle.cob_data.specs.Levels.{records_of};
-ghost use Rattle.cob_data.specs.Answers.{IsRefused};
+ghost use Rattle.cob_forms.specs.Answers.{IsRefused};
+ghost use Rattle.cob_data.specs.Faults.{data_fault, faults_by, limits};
+ghost use Rattle.cob_data.specs.Occurrences.{HasOccurrences};
 
 use crate::cds::cd_body;
 use crate::entries::{Entries, is_cd, leads};
 use crate::entry::Entry;
 use crate::grammar::DIVISIONS;
 use crate::items::{items_by_area, items_over};
+use crate::passes::first_other_fault;
 use crate::reader::{Wanted, read_parts};
 use crate::runs::{described, next_run};
 use crate::{CdEntry, DataDivision, Item};
-use cob_forms::{Name, next_is_word};
-use cob_lex::{MAX_SOURCE, SourceError, SourceFault, SourceKind, Token};
+use cob_forms::{Name, first_with, next_is_word, split_wanted};
+use cob_lex::{MAX_SOURCE, SourceError, SourceFault, Token};
 use com_text::Rows;
 use std::alloc::{AllocError, Global};
 
-/// How many tokens stand before the word PROCEDURE.
+/// How many tokens stand before the word PROCEDURE, or how many are left where another is wanted.
 pub(crate) fn procedure_place(tokens: &[Token]) -> Result<usize, Wanted>
-    ensures { MatchResult result (λ place. (reading rows_of data_division tokens.now ≡ ends (drop (place + 1) tokens.now)) × (place < length tokens.now))
-        (λ stop. reading rows_of data_division tokens.now ≡ wanted stop.left) }
+    ensures { MatchResult result (λ place. (reading alternatives_of data_division tokens.now ≡ ends (drop (place + 1) tokens.now)) × (place < length tokens.now))
+        (λ stop. reading alternatives_of data_division tokens.now ≡ wanted stop.left) }
 {
     let rest = read_parts(DIVISIONS, tokens)?;
     if next_is_word(rest, b"PROCEDURE") {
@@ -34,45 +38,71 @@ pub(crate) fn procedure_place(tokens: &[Token]) -> Result<usize, Wanted>
     }
 }
 
-impl Wanted {
-    /// The fault that another token is wanted.
-    pub(crate) fn fault(self, tokens: &[Token]) -> SourceFault
-        ensures { wanted_word tokens.now (wanted self.left) ≡ Some result }
-    {
-        let place = tokens.len().saturating_sub(self.left.max(1));
-        match tokens.get(place) {
-            Some(token) => SourceFault {
-                line: token.line,
-                column: token.column,
-                kind: SourceKind::WantedWord,
-            },
-            None => SourceFault {
-                line: 1,
-                column: 1,
-                kind: SourceKind::WantedWord,
-            },
-        }
-    }
+/// The first fault of tokens among which another one is wanted.
+fn first_fault_stopped(
+    alloc: Global,
+    tokens: &[Token],
+    stop: Wanted,
+) -> Result<SourceFault, AllocError>
+    requires { length tokens.now ≤ MAX_SOURCE }
+    ensures { IfOk result (λ fault. first (faults_by limits tokens.now (wanted stop.left)) ≡ Some fault) }
+{
+    let (front, wanted) = split_wanted(tokens, stop.left);
+    let found = first_other_fault(alloc, front)?;
+    Ok(first_with(wanted, found))
+}
+
+/// The first fault of tokens that tell divisions, with so many before the word PROCEDURE.
+fn first_fault_told(
+    alloc: Global,
+    tokens: &[Token],
+    place: usize,
+) -> Result<Option<SourceFault>, AllocError>
+    requires few { length tokens.now ≤ MAX_SOURCE }
+    requires within { place < length tokens.now }
+    ensures { IfOk result (λ found. found ≡ first (faults_by limits tokens.now (ends (drop (place + 1) tokens.now)))) }
+{
+    let (front, _) = tokens.split_at(place + 1);
+    first_other_fault(alloc, front)
 }
 
 /// Where the program's name stands among the tokens, from 0.
 const NAME_PLACE: usize = 5;
 
-/// The divisions that tokens tell up to the word PROCEDURE, and how many tokens stand before that word;
-/// or where another word or sign is wanted.
-pub fn data_division(alloc: Global, tokens: &[Token]) -> Result<(DataDivision, usize), SourceError>
-    requires { length tokens.now ≤ MAX_SOURCE }
-    ensures division { IfOk result (λ x. IsDivisionOf tokens.now x.1 x.0) }
-    ensures fault { IfErr result (λ error. IsRefused error (wanted_word tokens.now (reading rows_of data_division tokens.now))) }
+/// The divisions that tokens tell, with so many before the word PROCEDURE.
+fn division_told(alloc: Global, tokens: &[Token], place: usize) -> Result<DataDivision, AllocError>
+    requires few { length tokens.now ≤ MAX_SOURCE }
+    requires complete { reading alternatives_of data_division tokens.now ≡ ends (drop (place + 1) tokens.now) }
+    requires within { place < length tokens.now }
+    ensures { IfOk result (λ division. IsDivisionOf tokens.now place division) }
 {
-    let place = match procedure_place(tokens) {
-        Ok(place) => place,
-        Err(stop) => return Err(SourceError::Refused(stop.fault(tokens))),
-    };
     let (before, _) = tokens.split_at(place);
-    match divisions(alloc, &tokens[NAME_PLACE], before) {
-        Ok(division) => Ok((division, place)),
-        Err(error) => Err(SourceError::Memory(error)),
+    divisions(alloc, &tokens[NAME_PLACE], before)
+}
+
+/// Reads the divisions from the first token to the word PROCEDURE, and says how many tokens stand before
+/// that word.
+pub fn data_division(alloc: Global, tokens: &[Token]) -> Result<(DataDivision, usize), SourceError>
+    // A source has no more tokens than bytes.
+    requires { length tokens.now ≤ MAX_SOURCE }
+    // The tokens tell the divisions that are found, and no others.
+    ensures division { IfOk result (λ x. IsDivisionOf tokens.now x.1 x.0) }
+    // Where they are found there is no fault.
+    ensures sound { IfOk result (λ _. data_fault tokens.now ≡ None) }
+    // Each of its tables has 1 to 8 destinations.
+    ensures occurrences { IfOk result (λ x. HasOccurrences x.0) }
+    // A refusal tells the first fault. Where memory runs out, nothing is said of the tokens.
+    ensures fault { IfErr result (λ error. IsRefused error (data_fault tokens.now)) }
+{
+    match procedure_place(tokens) {
+        Ok(place) => match first_fault_told(alloc, tokens, place)? {
+            None => Ok((division_told(alloc, tokens, place)?, place)),
+            Some(fault) => Err(SourceError::Refused(fault)),
+        },
+        Err(stop) => {
+            let fault = first_fault_stopped(alloc, tokens, stop)?;
+            Err(SourceError::Refused(fault))
+        }
     }
 }
 
@@ -109,20 +139,20 @@ fn chosen_word<'a>(header: &[u8], tokens: &'a [Token]) -> Option<&'a Token>
 {
     let mut entries = Entries::of(tokens);
     let mut is_header = false;
-    'entries: while let Some((is_word, entry)) = entries.next() {
+    'entries: while let Some((is_chosen, entry)) = entries.next() {
         if is_header {
             return entry.first();
         }
-        is_header = leads_as(is_word, entry, header);
+        is_header = leads_as(is_chosen, entry, header);
     }
     None
 }
 
 /// Whether an entry is this header, and no word that the program chooses.
-fn leads_as(is_word: bool, entry: &[Token], header: &[u8]) -> bool
-    ensures { result ≡ (not is_word && leads header.now entry.now) }
+fn leads_as(is_chosen: bool, entry: &[Token], header: &[u8]) -> bool
+    ensures { result ≡ (not is_chosen && leads header.now entry.now) }
 {
-    !is_word && leads(entry, header)
+    !is_chosen && leads(entry, header)
 }
 
 /// The items of Working-Storage, and how many areas they have.

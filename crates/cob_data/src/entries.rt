@@ -1,7 +1,7 @@
 //! The entries of the divisions, each up to its period, taken from the front.
 ghost use Rattle.std.specs.Prelude.{◌≡◌, ◌≤◌, ◌&&◌, [], ◌∷◌, MatchOption, false, length, not};
-ghost use Rattle.cob_forms.specs.Sorts.{is};
-ghost use Rattle.cob_data.specs.Entries.{ends_entry, entries_of, is_cd, is_item, leads, piece_length, told, wants_word};
+ghost use Rattle.cob_forms.specs.Sorts.{is, reserved};
+ghost use Rattle.cob_data.specs.Entries.{behind, ends_entry, entries_of, is_cd, is_item, leads, piece_length, told, wants_word};
 ghost use Rattle.cob_data.specs.Forms.{period};
 
 use cob_forms::{is_kind, is_word};
@@ -12,7 +12,7 @@ use std::marker::Model;
 /// such as PROGRAM-ID.
 #[derive(Drop)]
 pub(crate) struct Entries<'a> {
-    is_word: bool,
+    is_chosen: bool,
     rest: &'a [Token],
 }
 
@@ -23,7 +23,7 @@ impl<'a> Model for Entries<'a> {
 
     ghost Value = { List (Bool × List Token) };
 
-    ghost view = { λ entries. told entries.is_word (entries_of entries.rest.now) };
+    ghost view = { λ entries. told entries.is_chosen (entries_of entries.rest.now) };
 }
 
 impl<'a> Entries<'a> {
@@ -32,7 +32,7 @@ impl<'a> Entries<'a> {
         ensures { result ≡ told false (entries_of tokens.now) }
     {
         Entries {
-            is_word: false,
+            is_chosen: false,
             rest: tokens,
         }
     }
@@ -45,10 +45,10 @@ impl<'a> Entries<'a> {
             return None;
         }
         let (entry, rest) = self.rest.split_at(entry_length(self.rest));
-        let is_word = self.is_word;
-        self.is_word = awaits_word(is_word, entry);
+        let is_chosen = self.is_chosen;
+        self.is_chosen = awaits_word(is_chosen, entry);
         self.rest = rest;
-        Some((is_word, entry))
+        Some((is_chosen, entry))
     }
 }
 
@@ -77,6 +77,20 @@ pub(crate) fn leads(entry: &[Token], word: &[u8]) -> bool
     }
 }
 
+/// What stands behind the first token that is this reserved word.
+pub(crate) fn behind_word<'a>(tokens: &'a [Token], word: &[u8]) -> &'a [Token]
+    ensures { result.now ≡ behind (is (reserved word.now)) tokens.now }
+{
+    let mut rest = tokens;
+    'tokens: while let Some((token, others)) = rest.split_first() {
+        rest = others;
+        if is_word(token, word) {
+            return rest;
+        }
+    }
+    rest
+}
+
 /// Whether the program chooses a word behind an entry.
 fn wants_word(entry: &[Token]) -> bool
     ensures { result ≡ wants_word entry.now }
@@ -87,10 +101,10 @@ fn wants_word(entry: &[Token]) -> bool
 }
 
 /// Whether the program chooses a word behind an entry, which may be such a word itself.
-fn awaits_word(is_word: bool, entry: &[Token]) -> bool
-    ensures { result ≡ (not is_word && wants_word entry.now) }
+fn awaits_word(is_chosen: bool, entry: &[Token]) -> bool
+    ensures { result ≡ (not is_chosen && wants_word entry.now) }
 {
-    !is_word && wants_word(entry)
+    !is_chosen && wants_word(entry)
 }
 
 /// Whether an entry is an item.

@@ -1,7 +1,7 @@
 //! Headers, items and CD entries, with what is measured of them.
 ghost use Rattle.std.specs.Prelude.{◌≡◌, ◌≤◌, option_map};
 ghost use Rattle.cob_data.specs.Entries.{picture_in};
-ghost use Rattle.cob_data.specs.Levels.{own_size, rank, rank_of};
+ghost use Rattle.cob_data.specs.Levels.{is_level, own_size, rank, rank_of};
 ghost use Rattle.cob_data.specs.Numerals.{numeral};
 
 use crate::pictures::size_of;
@@ -80,13 +80,21 @@ fn rank(item: &[Token]) -> u64
 }
 
 /// The rank of a level, by its digits.
-fn rank_of(digits: &[u8]) -> u64
+pub(crate) fn rank_of(digits: &[u8]) -> u64
     ensures { result ≡ rank_of digits.now }
 {
     match numeral(digits) {
         77 => 1,
         number => number,
     }
+}
+
+/// Whether digits are a level: 01 to 49 or 77, with or without the leading zero.
+pub(crate) fn is_level(digits: &[u8]) -> bool
+    ensures { result ≡ is_level digits.now }
+{
+    let number = numeral(digits);
+    digits.len() <= 2 && (1 <= number && number <= 49 || number == 77)
 }
 
 /// The picture of an item.

@@ -1,7 +1,7 @@
 //! The forms of the divisions, as tables.
 ghost use Rattle.std.specs.Prelude.{◌≡◌, map};
-ghost use Rattle.cob_data.specs.Tables.{form_of, row_of};
-ghost use Rattle.cob_data.specs.Forms.{rows_of};
+ghost use Rattle.cob_data.specs.Tables.{form_of, alternative_of};
+ghost use Rattle.cob_data.specs.Forms.{alternatives_of};
 
 use Part::{Maybe, More};
 use Sort::{AnyWord, Kind, Reserved};
@@ -64,7 +64,7 @@ pub(crate) enum Part {
 
 /// A sort of token with which a form may begin, and the parts behind that token.
 #[derive(Clone, Copy)]
-pub(crate) struct Row(pub(crate) Sort, pub(crate) &'static [Part]);
+pub(crate) struct Alternative(pub(crate) Sort, pub(crate) &'static [Part]);
 
 const NUMBER: Sort = Kind(TokenKind::Number);
 
@@ -113,12 +113,12 @@ pub(crate) const DIVISIONS: &[Part] = &[
     Maybe(Form::Communication),
 ];
 
-const ENVIRONMENT: &[Row] = &[Row(
+const ENVIRONMENT: &[Alternative] = &[Alternative(
     Reserved(b"ENVIRONMENT"),
     &[DIVISION, END, Maybe(Form::Configuration)],
 )];
 
-const CONFIGURATION: &[Row] = &[Row(
+const CONFIGURATION: &[Alternative] = &[Alternative(
     Reserved(b"CONFIGURATION"),
     &[
         SECTION,
@@ -128,77 +128,86 @@ const CONFIGURATION: &[Row] = &[Row(
     ],
 )];
 
-const SOURCE_COMPUTER: &[Row] = &[Row(Reserved(b"SOURCE-COMPUTER"), &[END, WORD, END])];
+const SOURCE_COMPUTER: &[Alternative] = &[Alternative(
+    Reserved(b"SOURCE-COMPUTER"),
+    &[END, WORD, END],
+)];
 
-const OBJECT_COMPUTER: &[Row] = &[Row(Reserved(b"OBJECT-COMPUTER"), &[END, WORD, END])];
+const OBJECT_COMPUTER: &[Alternative] = &[Alternative(
+    Reserved(b"OBJECT-COMPUTER"),
+    &[END, WORD, END],
+)];
 
-const WORKING_STORAGE: &[Row] = &[Row(
+const WORKING_STORAGE: &[Alternative] = &[Alternative(
     Reserved(b"WORKING-STORAGE"),
     &[SECTION, END, More(Form::Item)],
 )];
 
-const COMMUNICATION: &[Row] = &[Row(
+const COMMUNICATION: &[Alternative] = &[Alternative(
     Reserved(b"COMMUNICATION"),
     &[SECTION, END, More(Form::CdEntry)],
 )];
 
-const ITEM: &[Row] = &[Row(NUMBER, &[FIELD, Part::Form(Form::Clauses)])];
+const ITEM: &[Alternative] = &[Alternative(NUMBER, &[FIELD, Part::Form(Form::Clauses)])];
 
-const NAME_OR_FILLER: &[Row] = &[Row(Sort::Name, &[]), Row(Reserved(b"FILLER"), &[])];
+const NAME_OR_FILLER: &[Alternative] = &[
+    Alternative(Sort::Name, &[]),
+    Alternative(Reserved(b"FILLER"), &[]),
+];
 
-const CLAUSES: &[Row] = &[
-    Row(PERIOD, &[]),
-    Row(
+const CLAUSES: &[Alternative] = &[
+    Alternative(PERIOD, &[]),
+    Alternative(
         Reserved(b"PIC"),
         &[IS, PICTURE, Part::Form(Form::BehindPicture)],
     ),
-    Row(
+    Alternative(
         Reserved(b"PICTURE"),
         &[IS, PICTURE, Part::Form(Form::BehindPicture)],
     ),
-    Row(
+    Alternative(
         Reserved(b"VALUE"),
         &[IS, Part::Form(Form::Value), Part::Form(Form::BehindValue)],
     ),
 ];
 
-const BEHIND_PICTURE: &[Row] = &[
-    Row(PERIOD, &[]),
-    Row(Reserved(b"VALUE"), &[IS, Part::Form(Form::Value), END]),
+const BEHIND_PICTURE: &[Alternative] = &[
+    Alternative(PERIOD, &[]),
+    Alternative(Reserved(b"VALUE"), &[IS, Part::Form(Form::Value), END]),
 ];
 
-const BEHIND_VALUE: &[Row] = &[
-    Row(PERIOD, &[]),
-    Row(Reserved(b"PIC"), &[IS, PICTURE, END]),
-    Row(Reserved(b"PICTURE"), &[IS, PICTURE, END]),
+const BEHIND_VALUE: &[Alternative] = &[
+    Alternative(PERIOD, &[]),
+    Alternative(Reserved(b"PIC"), &[IS, PICTURE, END]),
+    Alternative(Reserved(b"PICTURE"), &[IS, PICTURE, END]),
 ];
 
-const VALUE: &[Row] = &[
-    Row(Kind(TokenKind::Literal), &[]),
-    Row(NUMBER, &[]),
-    Row(Reserved(b"SPACE"), &[]),
-    Row(Reserved(b"SPACES"), &[]),
-    Row(Reserved(b"ZERO"), &[]),
-    Row(Reserved(b"ZEROS"), &[]),
-    Row(Reserved(b"ZEROES"), &[]),
+const VALUE: &[Alternative] = &[
+    Alternative(Kind(TokenKind::Literal), &[]),
+    Alternative(NUMBER, &[]),
+    Alternative(Reserved(b"SPACE"), &[]),
+    Alternative(Reserved(b"SPACES"), &[]),
+    Alternative(Reserved(b"ZERO"), &[]),
+    Alternative(Reserved(b"ZEROS"), &[]),
+    Alternative(Reserved(b"ZEROES"), &[]),
 ];
 
-const CD_ENTRY: &[Row] = &[Row(
+const CD_ENTRY: &[Alternative] = &[Alternative(
     Reserved(b"CD"),
     &[NAME, Part::Form(Form::CdUse), More(Form::Item)],
 )];
 
-const CD_USE: &[Row] = &[
-    Row(Reserved(b"FOR"), &[Part::Form(Form::Direction)]),
-    Row(Reserved(b"INITIAL"), &[INPUT, Part::Form(Form::InputBody)]),
-    Row(Reserved(b"INPUT"), &[Part::Form(Form::InputBody)]),
-    Row(Reserved(b"OUTPUT"), &[Part::Form(Form::OutputBody)]),
+const CD_USE: &[Alternative] = &[
+    Alternative(Reserved(b"FOR"), &[Part::Form(Form::Direction)]),
+    Alternative(Reserved(b"INITIAL"), &[INPUT, Part::Form(Form::InputBody)]),
+    Alternative(Reserved(b"INPUT"), &[Part::Form(Form::InputBody)]),
+    Alternative(Reserved(b"OUTPUT"), &[Part::Form(Form::OutputBody)]),
 ];
 
-const DIRECTION: &[Row] = &[
-    Row(Reserved(b"INITIAL"), &[INPUT, Part::Form(Form::InputBody)]),
-    Row(Reserved(b"INPUT"), &[Part::Form(Form::InputBody)]),
-    Row(Reserved(b"OUTPUT"), &[Part::Form(Form::OutputBody)]),
+const DIRECTION: &[Alternative] = &[
+    Alternative(Reserved(b"INITIAL"), &[INPUT, Part::Form(Form::InputBody)]),
+    Alternative(Reserved(b"INPUT"), &[Part::Form(Form::InputBody)]),
+    Alternative(Reserved(b"OUTPUT"), &[Part::Form(Form::OutputBody)]),
 ];
 
 const TEN_MORE: &[Part] = &[
@@ -210,104 +219,104 @@ const MORE_IN: Part = More(Form::InputClause);
 
 const MORE_OUT: Part = More(Form::OutputClause);
 
-const INPUT_BODY: &[Row] = &[
-    Row(PERIOD, &[]),
-    Row(Sort::Name, TEN_MORE),
-    Row(Reserved(b"FILLER"), TEN_MORE),
-    Row(
+const INPUT_BODY: &[Alternative] = &[
+    Alternative(PERIOD, &[]),
+    Alternative(Sort::Name, TEN_MORE),
+    Alternative(Reserved(b"FILLER"), TEN_MORE),
+    Alternative(
         Reserved(b"SYMBOLIC"),
         &[Part::Form(Form::SymbolicField), MORE_IN, END],
     ),
-    Row(Reserved(b"QUEUE"), &[IS, NAME, MORE_IN, END]),
-    Row(Reserved(b"SUB-QUEUE-1"), &[IS, NAME, MORE_IN, END]),
-    Row(Reserved(b"SUB-QUEUE-2"), &[IS, NAME, MORE_IN, END]),
-    Row(Reserved(b"SUB-QUEUE-3"), &[IS, NAME, MORE_IN, END]),
-    Row(Reserved(b"SOURCE"), &[IS, NAME, MORE_IN, END]),
-    Row(
+    Alternative(Reserved(b"QUEUE"), &[IS, NAME, MORE_IN, END]),
+    Alternative(Reserved(b"SUB-QUEUE-1"), &[IS, NAME, MORE_IN, END]),
+    Alternative(Reserved(b"SUB-QUEUE-2"), &[IS, NAME, MORE_IN, END]),
+    Alternative(Reserved(b"SUB-QUEUE-3"), &[IS, NAME, MORE_IN, END]),
+    Alternative(Reserved(b"SOURCE"), &[IS, NAME, MORE_IN, END]),
+    Alternative(
         Reserved(b"MESSAGE"),
         &[Part::Form(Form::MessageField), IS, NAME, MORE_IN, END],
     ),
-    Row(Reserved(b"TEXT"), &[LENGTH, IS, NAME, MORE_IN, END]),
-    Row(Reserved(b"END"), &[KEY, IS, NAME, MORE_IN, END]),
-    Row(Reserved(b"STATUS"), &[KEY, IS, NAME, MORE_IN, END]),
-    Row(Reserved(b"COUNT"), &[IS, NAME, MORE_IN, END]),
+    Alternative(Reserved(b"TEXT"), &[LENGTH, IS, NAME, MORE_IN, END]),
+    Alternative(Reserved(b"END"), &[KEY, IS, NAME, MORE_IN, END]),
+    Alternative(Reserved(b"STATUS"), &[KEY, IS, NAME, MORE_IN, END]),
+    Alternative(Reserved(b"COUNT"), &[IS, NAME, MORE_IN, END]),
 ];
 
-const INPUT_CLAUSE: &[Row] = &[
-    Row(Reserved(b"SYMBOLIC"), &[Part::Form(Form::SymbolicField)]),
-    Row(Reserved(b"QUEUE"), &[IS, NAME]),
-    Row(Reserved(b"SUB-QUEUE-1"), &[IS, NAME]),
-    Row(Reserved(b"SUB-QUEUE-2"), &[IS, NAME]),
-    Row(Reserved(b"SUB-QUEUE-3"), &[IS, NAME]),
-    Row(Reserved(b"SOURCE"), &[IS, NAME]),
-    Row(
+const INPUT_CLAUSE: &[Alternative] = &[
+    Alternative(Reserved(b"SYMBOLIC"), &[Part::Form(Form::SymbolicField)]),
+    Alternative(Reserved(b"QUEUE"), &[IS, NAME]),
+    Alternative(Reserved(b"SUB-QUEUE-1"), &[IS, NAME]),
+    Alternative(Reserved(b"SUB-QUEUE-2"), &[IS, NAME]),
+    Alternative(Reserved(b"SUB-QUEUE-3"), &[IS, NAME]),
+    Alternative(Reserved(b"SOURCE"), &[IS, NAME]),
+    Alternative(
         Reserved(b"MESSAGE"),
         &[Part::Form(Form::MessageField), IS, NAME],
     ),
-    Row(Reserved(b"TEXT"), &[LENGTH, IS, NAME]),
-    Row(Reserved(b"END"), &[KEY, IS, NAME]),
-    Row(Reserved(b"STATUS"), &[KEY, IS, NAME]),
-    Row(Reserved(b"COUNT"), &[IS, NAME]),
+    Alternative(Reserved(b"TEXT"), &[LENGTH, IS, NAME]),
+    Alternative(Reserved(b"END"), &[KEY, IS, NAME]),
+    Alternative(Reserved(b"STATUS"), &[KEY, IS, NAME]),
+    Alternative(Reserved(b"COUNT"), &[IS, NAME]),
 ];
 
-const SYMBOLIC_FIELD: &[Row] = &[
-    Row(Reserved(b"QUEUE"), &[IS, NAME]),
-    Row(Reserved(b"SUB-QUEUE-1"), &[IS, NAME]),
-    Row(Reserved(b"SUB-QUEUE-2"), &[IS, NAME]),
-    Row(Reserved(b"SUB-QUEUE-3"), &[IS, NAME]),
-    Row(Reserved(b"SOURCE"), &[IS, NAME]),
+const SYMBOLIC_FIELD: &[Alternative] = &[
+    Alternative(Reserved(b"QUEUE"), &[IS, NAME]),
+    Alternative(Reserved(b"SUB-QUEUE-1"), &[IS, NAME]),
+    Alternative(Reserved(b"SUB-QUEUE-2"), &[IS, NAME]),
+    Alternative(Reserved(b"SUB-QUEUE-3"), &[IS, NAME]),
+    Alternative(Reserved(b"SOURCE"), &[IS, NAME]),
 ];
 
-const MESSAGE_FIELD: &[Row] = &[
-    Row(Reserved(b"DATE"), &[]),
-    Row(Reserved(b"TIME"), &[]),
-    Row(Reserved(b"COUNT"), &[]),
+const MESSAGE_FIELD: &[Alternative] = &[
+    Alternative(Reserved(b"DATE"), &[]),
+    Alternative(Reserved(b"TIME"), &[]),
+    Alternative(Reserved(b"COUNT"), &[]),
 ];
 
-const OUTPUT_BODY: &[Row] = &[
-    Row(PERIOD, &[]),
-    Row(
+const OUTPUT_BODY: &[Alternative] = &[
+    Alternative(PERIOD, &[]),
+    Alternative(
         Reserved(b"DESTINATION"),
         &[Part::Form(Form::DestinationClause), MORE_OUT, END],
     ),
-    Row(
+    Alternative(
         Reserved(b"SYMBOLIC"),
         &[DESTINATION, IS, NAME, MORE_OUT, END],
     ),
-    Row(Reserved(b"TEXT"), &[LENGTH, IS, NAME, MORE_OUT, END]),
-    Row(Reserved(b"STATUS"), &[KEY, IS, NAME, MORE_OUT, END]),
-    Row(Reserved(b"ERROR"), &[KEY, IS, NAME, MORE_OUT, END]),
+    Alternative(Reserved(b"TEXT"), &[LENGTH, IS, NAME, MORE_OUT, END]),
+    Alternative(Reserved(b"STATUS"), &[KEY, IS, NAME, MORE_OUT, END]),
+    Alternative(Reserved(b"ERROR"), &[KEY, IS, NAME, MORE_OUT, END]),
 ];
 
-const OUTPUT_CLAUSE: &[Row] = &[
-    Row(
+const OUTPUT_CLAUSE: &[Alternative] = &[
+    Alternative(
         Reserved(b"DESTINATION"),
         &[Part::Form(Form::DestinationClause)],
     ),
-    Row(Reserved(b"SYMBOLIC"), &[DESTINATION, IS, NAME]),
-    Row(Reserved(b"TEXT"), &[LENGTH, IS, NAME]),
-    Row(Reserved(b"STATUS"), &[KEY, IS, NAME]),
-    Row(Reserved(b"ERROR"), &[KEY, IS, NAME]),
+    Alternative(Reserved(b"SYMBOLIC"), &[DESTINATION, IS, NAME]),
+    Alternative(Reserved(b"TEXT"), &[LENGTH, IS, NAME]),
+    Alternative(Reserved(b"STATUS"), &[KEY, IS, NAME]),
+    Alternative(Reserved(b"ERROR"), &[KEY, IS, NAME]),
 ];
 
-const DESTINATION_CLAUSE: &[Row] = &[
-    Row(Reserved(b"COUNT"), &[IS, NAME]),
-    Row(
+const DESTINATION_CLAUSE: &[Alternative] = &[
+    Alternative(Reserved(b"COUNT"), &[IS, NAME]),
+    Alternative(
         Reserved(b"TABLE"),
         &[OCCURS, Part::Token(NUMBER), Maybe(Form::WordTimes)],
     ),
-    Row(Reserved(b"IS"), &[NAME]),
-    Row(Sort::Name, &[]),
+    Alternative(Reserved(b"IS"), &[NAME]),
+    Alternative(Sort::Name, &[]),
 ];
 
-const WORD_IS: &[Row] = &[Row(Reserved(b"IS"), &[])];
+const WORD_IS: &[Alternative] = &[Alternative(Reserved(b"IS"), &[])];
 
-const WORD_TIMES: &[Row] = &[Row(Reserved(b"TIMES"), &[])];
+const WORD_TIMES: &[Alternative] = &[Alternative(Reserved(b"TIMES"), &[])];
 
 impl Form {
-    /// The rows of a form.
-    pub(crate) fn rows(self) -> &'static [Row]
-        ensures { map row_of result.now ≡ rows_of (form_of self) }
+    /// The alternatives of a form.
+    pub(crate) fn alternatives(self) -> &'static [Alternative]
+        ensures { map alternative_of result.now ≡ alternatives_of (form_of self) }
     {
         match self {
             Form::Environment => ENVIRONMENT,

@@ -1,11 +1,11 @@
 //! Items and records of the tree, with their places.
-ghost use Rattle.std.specs.Prelude.{◌≡◌, ◌≤◌, ◌+◌, ◌*◌, ◌++◌, IfOk, codes, length, option_map};
-ghost use Rattle.cob_forms.specs.Sorts.{is, reserved};
-ghost use Rattle.cob_data.specs.Entries.{behind, picture_in, value_in};
+ghost use Rattle.std.specs.Prelude.{◌≡◌, ◌≤◌, ◌+◌, ◌*◌, ◌++◌, IfOk, length, option_map};
+ghost use Rattle.cob_data.specs.Entries.{picture_in, value_in};
 ghost use Rattle.cob_data.specs.Levels.{length_of, records_of, sort_of_item};
 ghost use Rattle.cob_data.specs.Divisions.{item_of, items_by_area, items_from, items_over, picture_of, value_of, word_value};
 
 use crate::cds::name_if;
+use crate::entries::behind_word;
 use crate::entry::{Entry, picture_in};
 use crate::pictures::sort_of;
 use crate::runs::next_record;
@@ -15,7 +15,7 @@ use cob_lex::{MAX_SOURCE, Token, TokenKind};
 use std::alloc::{AllocError, Global};
 
 /// What an item is by its picture.
-fn sort_of_item(item: &[Token]) -> ItemSort
+pub(crate) fn sort_of_item(item: &[Token]) -> ItemSort
     ensures { result ≡ sort_of_item item.now }
 {
     match picture_in(item) {
@@ -24,25 +24,11 @@ fn sort_of_item(item: &[Token]) -> ItemSort
     }
 }
 
-/// What stands behind VALUE.
-fn behind_value(item: &[Token]) -> &[Token]
-    ensures { result.now ≡ behind (is (reserved (codes "VALUE"))) item.now }
-{
-    let mut rest = item;
-    'tokens: while let Some((token, others)) = rest.split_first() {
-        rest = others;
-        if is_word(token, b"VALUE") {
-            return rest;
-        }
-    }
-    rest
-}
-
 /// The value of an item.
 pub(crate) fn value_in(item: &[Token]) -> Option<&Token>
     ensures { option_map (λ token. token.now) result ≡ value_in item.now }
 {
-    behind_value(item)
+    behind_word(item, b"VALUE")
         .iter()
         .find(|token| !is_word(token, b"IS"))
 }
@@ -58,7 +44,7 @@ pub(crate) fn value_of(alloc: Global, token: &Token) -> Result<Value, AllocError
     }
 }
 
-/// SPACE, ZERO and their kin as values.
+/// SPACE, SPACES, ZERO, ZEROS or ZEROES as a value.
 fn word_value(token: &Token) -> Value
     ensures { result ≡ word_value token.now }
 {

@@ -9,33 +9,56 @@
 //! - `specs/Faults.antt` says which faults tokens have, and which of them is told.
 //!
 //! [`data_division`] reads the tokens by tables of the forms (`grammar.rt`), which takes no memory and
-//! tells where another word is wanted, and then takes each entry apart by what stands in it. It looks for
-//! no other fault yet. That tokens tell one division is a law, `tokens_have_one_division`.
+//! tells where another word is wanted. Then it looks for each family of faults among the tokens that
+//! count (`passes.rt`) and answers the first fault of all. Where there is none it takes each entry apart
+//! by what stands in it. That tokens tell one division is a law, `tokens_have_one_division`.
+//!
+//! [`opening_storage`] makes the areas of a program as they begin. It asks that each table has 1 to 8
+//! destinations, as in the divisions that [`data_division`] answers.
 //!
 //! ```rust
 //! let tokens = lex(alloc, source)?;
 //! let (division, place) = data_division(alloc, tokens.as_slice())?;
+//! let areas = opening_storage(alloc, &division)?;
 //! ```
 //!
 //! Of a source with `01 A.`, `02 B PIC X(2).` and `02 C PIC 9(3).` the items are A with five characters from
-//! 0, B with two from 0 and C with three from 2, all in area 0. Before its word PROCEDURE stand `place`
-//! tokens.
+//! 0, B with two from 0 and C with three from 2, all in area 0, which begins as two spaces and `000`. Before
+//! its word PROCEDURE stand `place` tokens.
 #![tactic(auto)]
 
+mod cd_faults;
 mod cds;
+mod characters;
+mod columns;
 mod division;
 mod entries;
 mod entry;
+mod faults;
 mod grammar;
 mod items;
 mod laws;
+mod levels;
+mod names;
+mod open_levels;
+mod opening;
+mod passes;
 mod pictures;
 mod reader;
+mod records;
+mod run_faults;
 mod runs;
+mod seen;
 mod tree;
+mod unless;
+mod values;
+mod wholes;
 
+pub use characters::MAX_CHARACTERS;
 pub use division::data_division;
 pub use laws::tokens_have_one_division;
+pub use names::MAX_DATA_NAMES;
+pub use opening::opening_storage;
 pub use tree::{
     CdBody, CdEntry, DataDivision, InputClause, InputField, Item, ItemPlace, ItemSort,
     OutputClause, Picture, Value,

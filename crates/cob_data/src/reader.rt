@@ -4,7 +4,7 @@ ghost use Rattle.cob_forms.specs.Sorts.{is};
 ghost use Rattle.cob_data.specs.Tables.{form_of, part_of, parts_of, sort_of};
 ghost use Rattle.cob_data.specs.Stops.{BeginsWith, BeginsNot, ReadsTo, StopsAt};
 ghost use Rattle.cob_forms.specs.Forms.{behind, more, token};
-ghost use Rattle.cob_data.specs.Forms.{rows_of};
+ghost use Rattle.cob_data.specs.Forms.{alternatives_of};
 
 use crate::grammar::{Form, Part, Sort};
 use cob_forms::{is_kind, is_name, is_word};
@@ -32,11 +32,11 @@ impl Sort {
 
 /// The parts behind a token with which a form begins.
 fn parts_behind(form: Form, token: &Token) -> Option<&'static [Part]>
-    ensures { option_map (λ parts. parts_of parts.now) result ≡ behind (rows_of (form_of form)) token.now }
+    ensures { option_map (λ parts. parts_of parts.now) result ≡ behind (alternatives_of (form_of form)) token.now }
 {
-    'rows: for row in form.rows() {
-        if row.0.takes(token) {
-            return Some(row.1);
+    'alternatives: for alternative in form.alternatives() {
+        if alternative.0.takes(token) {
+            return Some(alternative.1);
         }
     }
     None

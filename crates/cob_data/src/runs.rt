@@ -1,5 +1,5 @@
-//! Entries in order: headers and CD entries with the items behind them, and records with the items below
-//! them.
+//! Runs, each a header or a CD entry with the items behind it; and records, each an item of level 01 or 77 with
+//! the items behind it.
 ghost use Rattle.std.specs.Prelude.{◌≡◌, ◌≤◌, ◌<◌, ◌+◌, [], ◌∷◌, IfOk, IfSome, MatchOption, drop, length, not, take_while};
 ghost use Rattle.cob_data.specs.Entries.{described, is_item, parted, run};
 ghost use Rattle.cob_data.specs.Levels.{is_record, records_of};
@@ -16,8 +16,8 @@ pub(crate) fn described(alloc: Global, tokens: &[Token]) -> Result<Vec<Entry>, A
 {
     let mut list = Vec::new(alloc);
     let mut entries = Entries::of(tokens);
-    'entries: while let Some((is_word, entry)) = entries.next() {
-        if !is_word {
+    'entries: while let Some((is_chosen, entry)) = entries.next() {
+        if !is_chosen {
             list.push(Entry::new(entry))?;
         }
     }

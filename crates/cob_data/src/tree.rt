@@ -1,9 +1,9 @@
-//! What the divisions before the Procedure Division are made of. Each form has a variant, and each of
-//! its parts a field, in written order.
+//! What the divisions before the Procedure Division are made of. Each part of a form is a field, in written
+//! order.
 use cob_forms::{Literal, Name, Number, Position};
 use com_text::{Rows, Text};
 
-/// The divisions of a program up to the word PROCEDURE: the program's name, the words of
+/// The divisions of a program up to the word PROCEDURE, named by the last of them: the program's name, the words of
 /// SOURCE-COMPUTER and OBJECT-COMPUTER where they are written, and the two sections of the Data
 /// Division.
 #[derive(Debug, Drop)]
@@ -65,7 +65,7 @@ pub enum Value {
     Zeros(Position),
 }
 
-/// A CD entry with the number of its area and the records that redefine the area.
+/// A CD entry with the number of its area and the items of the records that redefine the area.
 #[derive(Debug, Drop)]
 pub struct CdEntry {
     pub name: Name,

@@ -1,11 +1,23 @@
-//! Cases of COBOL sources up to the word PROCEDURE. Each line of `stdin` is a source, and `stdout` has
-//! where a character, a column or a word of it is wrong or another word is wanted, or its items with where
-//! their characters are.
+//! Cases of COBOL sources, which go through three passes: their tokens, their divisions up to the word
+//! PROCEDURE, and their Procedure Division. Each line of `stdin` is a source: `division` has it whole,
+//! `items` the lines of its Working-Storage Section from line 5, and `entries` those of its Communication
+//! Section. `names` makes as many items as its number says, and has the lines behind them. `stdout` has the
+//! first fault, or the items and CDs with where their characters are; `opening` is like `items`, and `stdout`
+//! has the characters with which the areas begin.
 #![tactic(auto)]
 
-use case_lines::{Cases, Words, answer_cases, unknown_call};
-use cob_data::{CdEntry, DataDivision, Item, data_division};
-use cob_lex::{MAX_SOURCE, SourceError, lex};
+ghost use Rattle.std.specs.Prelude.{◌≤◌, IfOk, length};
+ghost use Rattle.cob_data.specs.Occurrences.{HasOccurrences};
+ghost use Rattle.cob_lex.specs.Order.{AreInOrder};
+
+use case_lines::{Cases, Quoted, Words, answer_cases, unknown_call};
+use cob_data::{
+    CdBody, CdEntry, DataDivision, InputClause, InputField, Item, OutputClause, data_division,
+    opening_storage,
+};
+use cob_forms::Name;
+use cob_lex::{MAX_SOURCE, SourceError, SourceFault, Token, lex};
+use cob_proc::procedure_division;
 use std::alloc::{AllocError, Global};
 use std::io;
 
@@ -18,14 +30,73 @@ struct Sources {
 impl Cases for Sources {
     fn answer(&mut self, call: &[u8], words: &mut Words<'_>) -> Result<String, AllocError> {
         match call {
-            b"division" => division_of(self.alloc, words.bytes()),
+            b"division" => answer_to(self.alloc, words.bytes(), false),
+            b"items" => {
+                let source = source_with(self.alloc, b"WORKING-STORAGE", words)?;
+                answer_to(self.alloc, &source, false)
+            }
+            b"entries" => {
+                let source = source_with(self.alloc, b"COMMUNICATION", words)?;
+                answer_to(self.alloc, &source, false)
+            }
+            b"names" => {
+                let source = source_of_names(self.alloc, words)?;
+                answer_to(self.alloc, &source, false)
+            }
+            b"opening" => {
+                let source = source_with(self.alloc, b"WORKING-STORAGE", words)?;
+                answer_to(self.alloc, &source, true)
+            }
             _ => unknown_call(self.alloc),
         }
     }
 }
 
-/// The divisions of a source up to the word PROCEDURE, or its fault.
-fn division_of(alloc: Global, source: &[u8]) -> Result<String, AllocError> {
+/// The first four lines of a source of one section.
+fn head(alloc: Global, section: &[u8]) -> Result<Vec<u8>, AllocError> {
+    let mut source = Vec::new(alloc);
+    source.extend_from_slice(b"       IDENTIFICATION DIVISION.\n       PROGRAM-ID. P.\n")?;
+    source.extend_from_slice(b"       DATA DIVISION.\n       ")?;
+    source.extend_from_slice(section)?;
+    source.extend_from_slice(b" SECTION.\n")?;
+    Ok(source)
+}
+
+/// Adds the lines that words are, and a Procedure Division of one paragraph.
+fn push_lines(source: &mut Vec<u8>, words: &mut Words<'_>) -> Result<(), AllocError> {
+    for _ in 0..words.len() {
+        source.extend_from_slice(words.bytes())?;
+        source.push(b'\n')?;
+    }
+    source.extend_from_slice(b"       PROCEDURE DIVISION.\n       MAIN.\n")?;
+    Ok(())
+}
+
+/// A source of one section, whose lines stand from line 5, and of one paragraph.
+fn source_with(
+    alloc: Global,
+    section: &[u8],
+    words: &mut Words<'_>,
+) -> Result<Vec<u8>, AllocError> {
+    let mut source = head(alloc, section)?;
+    push_lines(&mut source, words)?;
+    Ok(source)
+}
+
+/// A source of as many items N0, N1 .. as the number says, each in a line from line 5 on, and the lines behind
+/// it.
+fn source_of_names(alloc: Global, words: &mut Words<'_>) -> Result<Vec<u8>, AllocError> {
+    let mut source = head(alloc, b"WORKING-STORAGE")?;
+    for number in 0..words.number() {
+        let line = format!(in alloc; "       01  N{number} PIC X.\n")?;
+        source.extend_from_slice(line.as_bytes())?;
+    }
+    push_lines(&mut source, words)?;
+    Ok(source)
+}
+
+/// What a source tells, or its first fault.
+fn answer_to(alloc: Global, source: &[u8], is_opening: bool) -> Result<String, AllocError> {
     if source.len() > MAX_SOURCE {
         return String::from_str(alloc, "a source that is too long");
     }
@@ -36,21 +107,38 @@ fn division_of(alloc: Global, source: &[u8]) -> Result<String, AllocError> {
     if tokens.len() > MAX_SOURCE {
         return String::from_str(alloc, "too many tokens");
     }
-    match data_division(alloc, tokens.as_slice()) {
+    match passed(alloc, tokens.as_slice()) {
+        Ok((division, _)) if is_opening => opening_of(alloc, &division),
         Ok((division, place)) => text_of(alloc, &division, place),
         Err(error) => refusal_of(alloc, error),
     }
 }
 
+/// What tokens tell up to the word PROCEDURE, where they have no fault.
+#[tactic(auto, using(cob_lex::proofs::SpelledOrder::order_behind))]
+fn passed(alloc: Global, tokens: &[Token]) -> Result<(DataDivision, usize), SourceError>
+    requires few { length tokens.now ≤ MAX_SOURCE }
+    requires in_order { AreInOrder tokens.now }
+    ensures { IfOk result (λ x. HasOccurrences x.0) }
+{
+    let (division, place) = data_division(alloc, tokens)?;
+    let (_, procedure) = tokens.split_at(place);
+    let _procedure = procedure_division(alloc, procedure)?;
+    Ok((division, place))
+}
+
 /// A fault with its line and column.
 fn refusal_of(alloc: Global, error: SourceError) -> Result<String, AllocError> {
     match error {
-        SourceError::Refused(fault) => {
-            let (kind, line, column) = (fault.kind, fault.line, fault.column);
-            format!(in alloc; "{kind:?} {line}:{column}")
-        }
+        SourceError::Refused(fault) => fault_text(alloc, fault),
         SourceError::Memory(error) => Err(error),
     }
+}
+
+/// The text of a fault.
+fn fault_text(alloc: Global, fault: SourceFault) -> Result<String, AllocError> {
+    let (kind, line, column) = (fault.kind, fault.line, fault.column);
+    format!(in alloc; "{kind:?} {line}:{column}")
 }
 
 /// A program's name, how many tokens stand before PROCEDURE, and its items and CDs.
@@ -64,13 +152,22 @@ fn text_of(alloc: Global, division: &DataDivision, place: usize) -> Result<Strin
     Ok(text)
 }
 
+/// The characters with which the areas of a program begin.
+fn opening_of(alloc: Global, division: &DataDivision) -> Result<String, AllocError>
+    requires { HasOccurrences division.now }
+{
+    let mut text = String::new(alloc);
+    for area in opening_storage(alloc, division)?.as_slice() {
+        let one = format!(in alloc; "{} ", Quoted(area.as_slice()))?;
+        text.push_str(one.as_str())?;
+    }
+    Ok(text)
+}
+
 /// Items with where their characters are: area, start, length and sort.
 fn push_items(alloc: Global, text: &mut String, items: &[Item]) -> Result<(), AllocError> {
     for item in items {
-        let name = match &item.name {
-            Some(name) => name.text.as_str(),
-            None => "FILLER",
-        };
+        let name = name_or_filler(&item.name);
         let level = item.level.digits.as_str();
         let (area, start, length) = (item.place.area, item.place.start, item.place.length);
         let sort = item.place.sort;
@@ -80,13 +177,94 @@ fn push_items(alloc: Global, text: &mut String, items: &[Item]) -> Result<(), Al
     Ok(())
 }
 
-/// A CD with its area and the records over it.
+/// The characters of a name, or FILLER.
+fn name_or_filler(name: &Option<Name>) -> &str {
+    match name {
+        Some(name) => name.text.as_str(),
+        None => "FILLER",
+    }
+}
+
+/// A CD with its area, its fields and the records over it.
 fn push_cd(alloc: Global, text: &mut String, entry: &CdEntry) -> Result<(), AllocError> {
     let name = entry.name.text.as_str();
     let area = entry.area;
     let one = format!(in alloc; ", CD {name} {area}")?;
     text.push_str(one.as_str())?;
+    match &entry.body {
+        CdBody::Input { clauses, .. } => push_clauses(alloc, text, clauses.as_slice())?,
+        CdBody::InputNames { names, .. } => push_names(alloc, text, names.as_slice())?,
+        CdBody::Output { clauses } => push_output(alloc, text, clauses.as_slice())?,
+    }
     push_items(alloc, text, entry.records.as_slice())
+}
+
+/// A field of a CD, and the name for it.
+fn push_field(
+    alloc: Global,
+    text: &mut String,
+    field: InputField,
+    name: &str,
+) -> Result<(), AllocError> {
+    let one = format!(in alloc; ", {field:?} {name}")?;
+    text.push_str(one.as_str())
+}
+
+/// The fields of an input CD by its clauses.
+fn push_clauses(
+    alloc: Global,
+    text: &mut String,
+    clauses: &[InputClause],
+) -> Result<(), AllocError> {
+    for clause in clauses {
+        push_field(alloc, text, clause.field, clause.name.text.as_str())?;
+    }
+    Ok(())
+}
+
+/// The fields of an input CD, in the order of its area.
+const FIELDS: [InputField; 11] = [
+    InputField::Queue,
+    InputField::SubQueue1,
+    InputField::SubQueue2,
+    InputField::SubQueue3,
+    InputField::MessageDate,
+    InputField::MessageTime,
+    InputField::Source,
+    InputField::TextLength,
+    InputField::EndKey,
+    InputField::StatusKey,
+    InputField::MessageCount,
+];
+
+/// The fields of an input CD by the list of its names.
+fn push_names(alloc: Global, text: &mut String, names: &[Option<Name>]) -> Result<(), AllocError> {
+    for (field, name) in FIELDS.iter().zip(names) {
+        push_field(alloc, text, *field, name_or_filler(name))?;
+    }
+    Ok(())
+}
+
+/// The fields of an output CD by its clauses.
+fn push_output(
+    alloc: Global,
+    text: &mut String,
+    clauses: &[OutputClause],
+) -> Result<(), AllocError> {
+    for clause in clauses {
+        let (field, told) = match clause {
+            OutputClause::DestinationCount { name, .. } => ("DestinationCount", &name.text),
+            OutputClause::TextLength { name, .. } => ("TextLength", &name.text),
+            OutputClause::StatusKey { name, .. } => ("StatusKey", &name.text),
+            OutputClause::Table { occurs, .. } => ("Table", &occurs.digits),
+            OutputClause::ErrorKey { name, .. } => ("ErrorKey", &name.text),
+            OutputClause::Destination { name, .. } => ("Destination", &name.text),
+        };
+        let told = told.as_str();
+        let one = format!(in alloc; ", {field} {told}")?;
+        text.push_str(one.as_str())?;
+    }
+    Ok(())
 }
 
 fn main(rt: HostRuntime) -> io::Result<()> {

@@ -4,7 +4,7 @@ use Rattle.cob_data.specs.Entries.{has}
 use Rattle.cob_data.specs.declared.tree.InputField.{InputField}
 use Rattle.cob_data.proofs.cds.first_told.Given as goal
 
-abbrev pub invariant-rows : goal.invariant-rows
-invariant-rows l =
-    option_map {T = List ℕ × InputField} (λ row. row.1) (find (λ row. has row.0 l.clause) (map (λ row. (row.0.now, row.1)) (drop l.row-index l.rows)))
-    ≡ option_map {T = List ℕ × InputField} (λ row. row.1) (find (λ row. has row.0 l.clause) (map (λ row. (row.0.now, row.1)) l.rows))
+abbrev pub invariant-pairs : goal.invariant-pairs
+invariant-pairs l =
+    option_map {T = List ℕ × InputField} (λ pair. pair.1) (find (λ pair. has pair.0 l.clause) (map (λ pair. (pair.0.now, pair.1)) (drop l.pair-index l.pairs)))
+    ≡ option_map {T = List ℕ × InputField} (λ pair. pair.1) (find (λ pair. has pair.0 l.clause) (map (λ pair. (pair.0.now, pair.1)) l.pairs))

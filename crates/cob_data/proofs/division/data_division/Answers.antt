@@ -1,9 +1,11 @@
-use Rattle.cob_data.proofs.HeaderLaws.{has_name, told_division}
+use Rattle.std.proofs.Common.{◌≡◌, None, sym, ap, ◌∙◌}
+use Rattle.cob_forms.specs.Faults.{first}
+use Rattle.cob_data.specs.Faults.{data_fault, faults_by, limits}
+use Rattle.cob_data.proofs.OccurrenceLaws.{has_occurrences}
 use Rattle.cob_data.proofs.division.data_division.Goals as goal
 
-pub bounds-tokens-5 : goal.bounds-tokens-5
-bounds-tokens-5 c = has_name c.args.tokens.now _ c.in-Ok.ensures.0
-
-pub returns-in-Ok-divisions-clause-division : goal.returns-in-Ok-divisions-clause-division
-returns-in-Ok-divisions-clause-division c =
-    told_division c.args.tokens.now c.split_at.result.0.now c.index-tokens-5.result c.in-Ok.place c.in-Ok-divisions.division c.in-Ok.ensures.0 c.in-Ok.ensures.1 c.split_at.ensures.front c.index-tokens-5.is c.in-Ok-divisions.ensures
+pub returns-in_ok-division_told-in-None-clause-occurrences : goal.returns-in_ok-division_told-in-None-clause-occurrences
+returns-in_ok-division_told-in-None-clause-occurrences c =
+    let sound : data_fault c.args.tokens.now ≡ None =
+    ap (λ read. first (faults_by limits c.args.tokens.now read)) c.in-Ok.ensures.0 ∙ sym c.in_ok-first_fault_told-in-Ok.ensures ∙ c.in-None.is in
+    has_occurrences c.args.tokens.now c.in-Ok.place c.in_ok-division_told-in-None.field-0 sound c.in_ok-division_told-in-None.ensures

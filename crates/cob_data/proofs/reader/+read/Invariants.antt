@@ -1,6 +1,6 @@
 use Rattle.std.proofs.Common.{◌≡◌, ◌+◌, ◌*◌, ◌≤◌, List, ◌∷◌, ◌++◌, length, drop}
 use Rattle.cob_forms.specs.Forms.{Part, more, reading}
-use Rattle.cob_data.specs.Forms.{Form, rows_of}
+use Rattle.cob_data.specs.Forms.{Form, alternatives_of}
 use Rattle.cob_data.specs.Tables.{form_of, parts_of}
 use Rattle.cob_data.proofs.reader.+read.Given as goal
 
@@ -15,13 +15,13 @@ decreases-read_turns l = 3 * length l.tokens.now
 
 abbrev pub invariant-read_parts-parts : goal.invariant-read_parts-parts
 invariant-read_parts-parts l = record {
-  read : (part : Part Form) (below : List (Part Form)) → reading rows_of (parts_of (drop l.part-index l.parts) ++ part ∷ below) l.rest ≡ reading rows_of (parts_of l.parts ++ part ∷ below) l.tokens;
+  read : (part : Part Form) (below : List (Part Form)) → reading alternatives_of (parts_of (drop l.part-index l.parts) ++ part ∷ below) l.rest ≡ reading alternatives_of (parts_of l.parts ++ part ∷ below) l.tokens;
   no_more : length l.rest ≤ length l.tokens;
 }
 
 abbrev pub invariant-read_turns-turns : goal.invariant-read_turns-turns
 invariant-read_turns-turns l = record {
-  read : (part : Part Form) (below : List (Part Form)) → reading rows_of (more (form_of l.form) ∷ part ∷ below) l.rest ≡ reading rows_of (more (form_of l.form) ∷ part ∷ below) l.tokens;
+  read : (part : Part Form) (below : List (Part Form)) → reading alternatives_of (more (form_of l.form) ∷ part ∷ below) l.rest ≡ reading alternatives_of (more (form_of l.form) ∷ part ∷ below) l.tokens;
   no_more : length l.rest ≤ length l.tokens;
 }
 

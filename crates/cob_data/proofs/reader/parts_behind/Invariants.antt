@@ -1,8 +1,8 @@
 use Rattle.std.proofs.Common.{◌≡◌, map, drop}
 use Rattle.cob_forms.specs.Forms.{behind}
-use Rattle.cob_data.specs.Forms.{rows_of}
-use Rattle.cob_data.specs.Tables.{form_of, row_of}
+use Rattle.cob_data.specs.Forms.{alternatives_of}
+use Rattle.cob_data.specs.Tables.{form_of, alternative_of}
 use Rattle.cob_data.proofs.reader.parts_behind.Given as goal
 
-abbrev pub invariant-rows : goal.invariant-rows
-invariant-rows l = behind (map row_of (drop l.row-index l.row-items)) l.token ≡ behind (rows_of (form_of l.fn.form)) l.token
+abbrev pub invariant-alternatives : goal.invariant-alternatives
+invariant-alternatives l = behind (map alternative_of (drop l.alternative-index l.alternative-items)) l.token ≡ behind (alternatives_of (form_of l.fn.form)) l.token
