@@ -24,3 +24,9 @@ mod TreeMeaning
 mod TreeFaults
 mod OneProgram
 mod WorkedTrees
+mod WorkedVerbs
+mod WorkedStops
+mod WorkedLimits
+mod WorkedNames
+mod WorkedForms
+mod WorkedOneName

@@ -9,7 +9,8 @@ use Rattle.com_events.specs.declared.call.Call.{Call}
 use Rattle.com_events.specs.declared.reply.Reply.{Reply}
 use Rattle.com_events.specs.declared.entry.Entry.{Entry}
 use Rattle.cob_meaning.specs.Meaning.{Run, Outcome, Normal, Jump, Stops, Needs, Ending, Stopped, Wants, Limits, Program, Meaning, beginning, meaning_of, meaning_within, meaning, unit_limits}
-use Rattle.cob_meaning.specs.Laws.{IsPrefixOf, GoesOn, GoesOnFrom, Takes, TakesFrom}
+use Rattle.com_events.specs.Fronts.{IsPrefixOf}
+use Rattle.cob_meaning.specs.Laws.{GoesOn, GoesOnFrom, Takes, TakesFrom}
 use Rattle.cob_meaning.specs.Follows.{answers_of, calls_of, is_waiting, replies_of}
 use Rattle.cob_meaning.proofs.Steady.{end_of, Grown, IsSpent, Further, range_steady}
 

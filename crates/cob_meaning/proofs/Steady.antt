@@ -15,7 +15,7 @@ use Rattle.cob_meaning.specs.Moves.{add, addend_number, move, subtract}
 use Rattle.cob_meaning.specs.Conditions.{holds}
 use Rattle.cob_meaning.specs.Verbs.{Request, accept, receive, send, switch_input, switch_output, with_reply}
 use Rattle.cob_meaning.specs.Meaning.{Run, Outcome, Normal, Jump, Stops, Needs, then_do, begun_with, begun, changed_to, changed, choice, times, so_often, until, turns, behind_reply, answered, requested, verb_with, verb, paragraph_number, last_of, Running, are_written, does, do_all, in_order, statements_of, after, paragraphs_do, from_to, range}
-use Rattle.cob_meaning.specs.Laws.{IsPrefixOf}
+use Rattle.com_events.specs.Fronts.{IsPrefixOf}
 
 -- where a run stands when it ends so
 abbrev pub end_of : Outcome → Run

@@ -34,12 +34,12 @@ all_right : text_fault (with_item (codes "       01  A PIC X(20).") (codes "    
 unfolding lines_tokens text_tokens front_of next reading
 all_right = refl
 
--- row bad picture: units of both sorts
+-- a bad picture: units of both sorts
 bad_picture : text_fault (with_item (codes "       01  A PIC X(2)9.") (codes "           STOP RUN.")) ≡ Some (fault 5 18 faults.BadPicture)
 unfolding lines_tokens text_tokens front_of next reading
 bad_picture = refl
 
--- row record length: 86 characters over an input CD, told at the name
+-- a record of 86 characters over an input CD, told at the name
 abbrev over_input : List ℕ → List ℕ
 over_input picture = source (
     codes "       IDENTIFICATION DIVISION." ∷

@@ -25,17 +25,17 @@ abbrev second_of : ℕ → ℕ → List ℕ → List ℕ → Identifier
 second_of line column text n =
     record { name = name_at line column text; subscript = Some (subscripts.Number (at line 30) (digits_at line 31 n)) }
 
-abbrev performs : ℕ → ℕ → List ℕ → Statement
+abbrev pub performs : ℕ → ℕ → List ℕ → Statement
 performs line column text = Perform (name_at line column text) None repetitions.Once
 
-abbrev performs_thru : ℕ → ℕ → List ℕ → ℕ → List ℕ → Statement
+abbrev pub performs_thru : ℕ → ℕ → List ℕ → ℕ → List ℕ → Statement
 performs_thru line column text later other =
     Perform (name_at line column text) (Some (name_at line later other)) repetitions.Once
 
-abbrev goes : ℕ → ℕ → List ℕ → Statement
+abbrev pub goes : ℕ → ℕ → List ℕ → Statement
 goes line column text = Go (name_at line column text)
 
-abbrev ranges_fault : List Paragraph → Option SourceFault
+abbrev pub ranges_fault : List Paragraph → Option SourceFault
 ranges_fault text = first (ranges_faults text)
 
 -- a GO out of a performed paragraph, as in LEAVER
@@ -79,13 +79,13 @@ no_circle : ranges_fault (paragraph (codes "A1") (performs 3 20 (codes "B1") ∷
 no_circle = refl
 
 -- the fault of a program of one paragraph over the items of SmallPrograms
-abbrev found : List Statement → Option SourceFault
+abbrev pub found : List Statement → Option SourceFault
 found statements = trees_fault (program (codes "ABC") (codes "042") (codes "XY12") (paragraph (codes "MAIN") statements ∷ []))
 
-abbrev moves : Operand → Identifier → Statement
+abbrev pub moves : Operand → Identifier → Statement
 moves source target = Move source (target ∷ [])
 
-abbrev of : ℕ → ℕ → List ℕ → Operand
+abbrev pub of : ℕ → ℕ → List ℕ → Operand
 of line column text = operands.Item (item_at line column text)
 
 -- a program whose names are declared

@@ -27,21 +27,21 @@ use Rattle.cob_meaning.specs.Meaning.{Ending, Stopped, Wants, Meaning, Program, 
 use Rattle.cob_meaning.proofs.Trees.{row, shape, here, name, item, item_by_number, item_by_item, of_item, literal, a_numeral, by_number, by_item, move_to, equals, alone, perform, perform_thru, go_to, paragraph, quoted}
 use Rattle.cob_meaning.proofs.SmallPrograms.{out_area, program, shows, sent, at_once, data_fault}
 
-abbrev main : List Statement → List Paragraph → Program
+abbrev pub main : List Statement → List Paragraph → Program
 main statements others = program (codes "ABC") (codes "042") (codes "XY12") (paragraph (codes "MAIN") statements ∷ others)
 
-abbrev runs : List Statement → List Paragraph → Meaning
+abbrev pub runs : List Statement → List Paragraph → Meaning
 runs statements others = meaning (main statements others) None []
 
 -- shows M and stops
-abbrev shows_m : List Statement
+abbrev pub shows_m : List Statement
 shows_m = shows (codes "M") ∷ []
 
 -- adds a number to M
 abbrev adds : List ℕ → Statement
 adds text = Add (by_number text) (item (codes "M"))
 
-abbrev once_more : Paragraph
+abbrev pub once_more : Paragraph
 once_more = paragraph (codes "P") (adds (codes "1") ∷ [])
 
 abbrev m_is : List ℕ → Condition
@@ -134,10 +134,10 @@ abbrev asked : Call
 asked = call.Receive opening_area kind.Message 3 true
 
 -- the area with a text length of two
-abbrev two_given : List ℕ
+abbrev pub two_given : List ℕ
 two_given = set_in field.Length opening_area (codes "0002")
 
-abbrev answered : List Call → Ending → Meaning
+abbrev pub answered : List Call → Ending → Meaning
 answered calls ending = record { calls = calls; ending = ending }
 
 abbrev sends : List ℕ → Ending
@@ -211,17 +211,17 @@ unfolding unit_limits
 key_of_literal = refl
 
 -- SEND D FROM A with an end and an advance
-abbrev ends : Indicator → Option Advancing → Statement
+abbrev pub ends : Indicator → Option Advancing → Statement
 ends indicator advancing = Send (name (codes "D")) (Some (item (codes "A"))) (Some (record { indicator = indicator; advancing = advancing }))
 
-abbrev before : Lines → Option Advancing
+abbrev pub before : Lines → Option Advancing
 before lines = Some (record { after = false; lines = lines })
 
-abbrev sends_part : Part → Meaning
+abbrev pub sends_part : Part → Meaning
 sends_part end = at_once (Wants (call.Send out_area end (Some (codes "ABC"))))
 
 -- the end that the character in K says
-abbrev ends_by : List ℕ → Option Advancing → Meaning
+abbrev pub ends_by : List ℕ → Option Advancing → Meaning
 ends_by text advancing = runs (move_to (literal text) (item (codes "K") ∷ []) ∷ ends (indicators.Item (item (codes "K"))) advancing ∷ []) []
 
 -- without ADVANCING a text goes behind one line
@@ -282,7 +282,7 @@ within statements verbs main_statements others replies =
 abbrev limit : Meaning
 limit = at_once (Stopped stop.Limit)
 
-abbrev accepts : Statement
+abbrev pub accepts : Statement
 accepts = Accept (name (codes "C"))
 
 -- as many statements as may be

@@ -394,7 +394,7 @@ leaver_to_b1 : Spells (leaver_tokens (codes "B1")) (leaver_program (codes "B1"))
 unfolding next reading input_field_of output_field_of
 leaver_to_b1 = leaver_is_spelled (codes "B1") refl refl
 
--- row leaver: the GO of line 9 leaves the range that line 6 performs
+-- LEAVER: the GO of line 9 leaves the range that line 6 performs
 leaver_is_refused : IsSourceFaultOf leaver (fault 9 18 faults.LeavesRange)
 unfolding lines_tokens text_tokens front_of
 leaver_is_refused = inr (record {
@@ -427,7 +427,7 @@ leaver_with_column_73 : IsProgramOf (leaver_with (codes "           GO TO B1." +
 unfolding lines_tokens text_tokens front_of
 leaver_with_column_73 = record { tokens = leaver_tokens (codes "B1"); are_tokens = refl; spells = leaver_to_b1; no_fault = refl }
 
--- row performs itself: each of two paragraphs performs the other, and the first PERFORM of the text is told
+-- each of two paragraphs performs the other, and the first PERFORM of the text is told
 abbrev circle : List ℕ
 circle = leaver_with (codes "           PERFORM A1.")
 

@@ -33,7 +33,7 @@ abbrev trees_with : List (List Statement) → List ParagraphTree
 trees_with sentences = written_paragraph (paragraph_at 2 (codes "MAIN") sentences) ∷ []
 
 -- each is what the readers find
-record Rows : Type 0 where
+record Facts : Type 0 where
   -- an ELSE is of the nearest IF
   nested_if : division.read_procedure (tokens_with (codes "IF A = 1 IF B = 1 EXIT ELSE STOP RUN.")) ≡ Ok (trees_with ((If' (at 3 12) (alone (simples.Compares (of_item 3 15 (codes "A")) false relations.Equal (of_number 3 19 (codes "1")))) (shape (If' (at 3 21) (alone (simples.Compares (of_item 3 24 (codes "B")) false relations.Equal (of_number 3 28 (codes "1")))) (shape (Exit ∷ [])) (row (Exit ∷ [])) (shape (Stop ∷ [])) (row (Stop ∷ [])) ∷ [])) (row (If' (at 3 21) (alone (simples.Compares (of_item 3 24 (codes "B")) false relations.Equal (of_number 3 28 (codes "1")))) (shape (Exit ∷ [])) (row (Exit ∷ [])) (shape (Stop ∷ [])) (row (Stop ∷ [])) ∷ [])) (shape []) (row []) ∷ []) ∷ []))
   -- and the next one of the IF around it
@@ -61,9 +61,9 @@ record Rows : Type 0 where
   -- ACCEPT without MESSAGE
   accepts_count : division.read_procedure (tokens_with (codes "ACCEPT C COUNT GO P.")) ≡ Ok (trees_with ((Accept (name_at 3 19 (codes "C")) ∷ Go (name_at 3 30 (codes "P")) ∷ []) ∷ []))
 
-rows : Rows
+facts : Facts
 unfolding lines_tokens text_tokens front_of turns parts.subscript_value parts.subscript parts.identifier parts.identifiers parts.constant parts.operand parts.addend parts.key parts.relation parts.compared parts.tested parts.perhaps_denied parts.simple parts.joined_part parts.joined parts.condition statement.read_move statement.read_add statement.read_subtract statement.through statement.times statement.repetition statement.read_perform statement.read_go statement.read_exit statement.read_stop statement.mark statement.with_what statement.indicator statement.perhaps_lines statement.lines_or_page statement.advanced statement.advancing statement.ending statement.sent statement.read_send statement.switched statement.read_switch statement.read_accept statement.read_plain division.unit_of_text division.receive_head division.receive_alone division.inner division.inners division.no_data division.receive division.otherwise division.branch division.read_statement division.read_statements division.read_sentence division.read_sentences division.read_paragraph division.read_paragraphs division.read_division
-rows = record {
+facts = record {
   nested_if = refl;
   else_of_first = refl;
   two_sentences = refl;
@@ -81,4 +81,4 @@ rows = record {
 
 -- what is read is spelled so: the first of these
 nested_if_is_spelled : IsProcedure (trees_with ((If' (at 3 12) (alone (simples.Compares (of_item 3 15 (codes "A")) false relations.Equal (of_number 3 19 (codes "1")))) (shape (If' (at 3 21) (alone (simples.Compares (of_item 3 24 (codes "B")) false relations.Equal (of_number 3 28 (codes "1")))) (shape (Exit ∷ [])) (row (Exit ∷ [])) (shape (Stop ∷ [])) (row (Stop ∷ [])) ∷ [])) (row (If' (at 3 21) (alone (simples.Compares (of_item 3 24 (codes "B")) false relations.Equal (of_number 3 28 (codes "1")))) (shape (Exit ∷ [])) (row (Exit ∷ [])) (shape (Stop ∷ [])) (row (Stop ∷ [])) ∷ [])) (shape []) (row []) ∷ []) ∷ [])) (tokens_with (codes "IF A = 1 IF B = 1 EXIT ELSE STOP RUN."))
-nested_if_is_spelled = procedure_spelled (tokens_with (codes "IF A = 1 IF B = 1 EXIT ELSE STOP RUN.")) _ rows.nested_if
+nested_if_is_spelled = procedure_spelled (tokens_with (codes "IF A = 1 IF B = 1 EXIT ELSE STOP RUN.")) _ facts.nested_if

@@ -2,9 +2,7 @@
 use Rattle.std.specs.Prelude.{◌≡◌, ◌≤◌, List, [], ◌∷◌, ◌++◌, length}
 use Rattle.com_events.specs.declared.reply.Reply.{Reply}
 use Rattle.cob_meaning.specs.Meaning.{Ending, Stopped, Wants, Meaning}
-
-abbrev pub IsPrefixOf : {X : Type 0} → List X → List X → Type 0
-IsPrefixOf {X} front whole = (rest : List X) × (whole ≡ front ++ rest)
+use Rattle.com_events.specs.Fronts.{IsPrefixOf}
 
 -- What becomes of a meaning with a reply more, and any behind it: what has stopped stays as it is, and a
 -- call that was wanted is the next to be answered.

@@ -11,7 +11,7 @@ use Rattle.cob_data.specs.declared.tree.ItemSort.{ItemSort}
 use Rattle.cob_data.specs.declared.tree.ItemSort.TheVariants as sorts
 use Rattle.cob_data.specs.Divisions.{IsDivisionOf}
 use Rattle.cob_data.specs.Faults.{data_fault}
-use Rattle.cob_data.specs.Forms.{data_division, rows_of}
+use Rattle.cob_data.specs.Forms.{data_division, alternatives_of}
 use Rattle.cob_data.specs.Layout.{Referent, data_at, declared, initial_area, input_cd, opening_storage, output_cd}
 use Rattle.cob_proc.specs.Faults.{procedure_fault}
 use Rattle.cob_proc.specs.Spelled.{IsProcedure}
@@ -47,7 +47,7 @@ layout_of d = record {
 -- The tokens from the word PROCEDURE on, where reading the divisions comes to it: it is the last token that was
 -- read.
 abbrev pub from_procedure : List Token → List Token
-from_procedure ts = drop (length (counting ts (reading rows_of data_division ts)) - 1) ts
+from_procedure ts = drop (length (counting ts (reading alternatives_of data_division ts)) - 1) ts
 
 -- The passes over tokens are the data pass and the procedure pass. The first one that finds a fault tells its
 -- first.

@@ -17,7 +17,8 @@ ghost use Rattle.cob_meaning.specs.Follows.{
   calls_of,
   replies_of,
 };
-ghost use Rattle.cob_meaning.specs.Laws.{GoesOn, IsPrefixOf, Takes};
+ghost use Rattle.com_events.specs.Fronts.{IsPrefixOf};
+ghost use Rattle.cob_meaning.specs.Laws.{GoesOn, Takes};
 ghost use Rattle.cob_proc.specs.declared.tree.Paragraph.{Paragraph as ParagraphOf};
 ghost use Rattle.cob_meaning.specs.Layouts.{Layout};
 ghost use Rattle.cob_meaning.specs.Names.{names_faults};

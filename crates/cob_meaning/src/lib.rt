@@ -8,6 +8,12 @@
 //! `specs/Sources.antt` says which program a source is (`IsProgramOf`) and which fault it has
 //! (`IsSourceFaultOf`), over all passes.
 //!
+//! ```text
+//! meaning echo None []                           its RECEIVE is wanted
+//! meaning echo None (HELLO ∷ [])                 the RECEIVE was answered; a SEND of HELLO is wanted
+//! meaning echo None (HELLO ∷ the area ∷ [])      both were answered; the RECEIVE is wanted again
+//! ```
+//!
 //! These are definitions, on which no code stands yet, with their laws.
 #![tactic(auto)]
 

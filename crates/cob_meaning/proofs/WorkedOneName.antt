@@ -1,0 +1,152 @@
+-- Sources in which a name stands for two things or for none, worked out by hand.
+use Rattle.std.proofs.Common.{◌≡◌, ℕ, List, [], ◌∷◌, drop, take, map, None, Ok, refl, sym, subst, codes, arith, inl, inr}
+use Rattle.cob_lex.specs.declared.fault.SourceKind.TheVariants as faults
+use Rattle.cob_lex.specs.declared.token.Token.{Token}
+use Rattle.cob_lex.specs.Fronts.{front_of}
+use Rattle.cob_lex.specs.Lexing.{lines_tokens, text_tokens, tokens_of}
+use Rattle.cob_lex.proofs.Programs.{source}
+use Rattle.cob_forms.specs.Forms.{next, reading}
+use Rattle.cob_forms.specs.Faults.{fault}
+use Rattle.cob_forms.specs.Readers.{turns}
+use Rattle.cob_data.specs.declared.tree.DataDivision.{DataDivision}
+use Rattle.cob_data.specs.Clauses.{input_field_of, output_field_of}
+use Rattle.cob_data.specs.Divisions.{IsDivisionOf, communication_of, working_storage_of}
+use Rattle.cob_proc.specs.declared.tree.Paragraph.{Paragraph}
+use Rattle.cob_proc.specs.declared.tree.Statement.{Statement, Move, Go, Stop}
+use Rattle.cob_proc.specs.PartReaders as parts
+use Rattle.cob_proc.specs.StatementReaders as statement
+use Rattle.cob_proc.specs.DivisionReaders as division
+use Rattle.cob_proc.specs.Spelled.{IsProcedure}
+use Rattle.cob_proc.specs.Trees.{paragraph_tree}
+use Rattle.cob_proc.proofs.DivisionSpelled.{procedure_spelled}
+use Rattle.cob_proc.proofs.WorkedSources.{tokens_in}
+use Rattle.cob_meaning.specs.Layouts.{an_item, of_characters}
+use Rattle.cob_meaning.specs.Meaning.{Program}
+use Rattle.cob_meaning.specs.Sources.{IsProgramOf, IsSourceFaultOf, Spells}
+use Rattle.cob_meaning.proofs.Placed.{name_at, item_at, of_item, paragraph_at}
+use Rattle.cob_meaning.proofs.SameTrees.{same_paragraphs, written_paragraph}
+
+-- an item MAIN, and a paragraph MAIN with two sentences, in lines 8 and 9
+abbrev with_sentences : List ℕ → List ℕ → List ℕ
+with_sentences one other = source (
+    codes "       IDENTIFICATION DIVISION." ∷
+    codes "       PROGRAM-ID. P." ∷
+    codes "       DATA DIVISION." ∷
+    codes "       WORKING-STORAGE SECTION." ∷
+    codes "       01  MAIN PIC X." ∷
+    codes "       PROCEDURE DIVISION." ∷
+    codes "       MAIN." ∷ one ∷ other ∷ [])
+
+abbrev both : List ℕ
+both = with_sentences (codes "           MOVE MAIN TO MAIN.") (codes "           GO TO MAIN.")
+
+abbrev unknown : List ℕ
+unknown = with_sentences (codes "           MOVE MAIN TO Z.") (codes "           STOP RUN.")
+
+abbrev tokens_from : List ℕ → List Token
+tokens_from source = tokens_in (tokens_of source)
+
+-- the program with these statements in its two sentences
+abbrev program_of : Statement → Statement → Program
+program_of one other = record {
+  layout = record {
+    names = (codes "MAIN", an_item (record { area = 0; start = 0; width = 1; holding = of_characters; occurs = None })) ∷ [];
+    opening = codes " " ∷ [];
+    initial = None;
+  };
+  text = paragraph_at 7 (codes "MAIN") ((one ∷ []) ∷ (other ∷ []) ∷ []) ∷ [];
+}
+
+abbrev both_program : Program
+both_program = program_of (Move (of_item 8 17 (codes "MAIN")) (item_at 8 25 (codes "MAIN") ∷ [])) (Go (name_at 9 18 (codes "MAIN")))
+
+abbrev unknown_program : Program
+unknown_program = program_of (Move (of_item 8 17 (codes "MAIN")) (item_at 8 25 (codes "Z") ∷ [])) Stop
+
+-- what these tokens tell before the word PROCEDURE
+abbrev told : List Token → DataDivision
+told ts = record {
+  program = name_at 2 20 (codes "P");
+  source_computer = None;
+  object_computer = None;
+  working_storage = working_storage_of (take 18 ts);
+  communication = communication_of (take 18 ts);
+}
+
+-- what is read is spelled so
+spelled : (text : List Paragraph) (ts : List Token) → division.read_procedure ts ≡ Ok (map written_paragraph text) → IsProcedure (map paragraph_tree text) ts
+spelled text ts read = subst (λ trees. IsProcedure trees ts) (sym (same_paragraphs text)) (procedure_spelled ts _ read)
+
+both_is_read : division.read_procedure (drop 18 (tokens_from both)) ≡ Ok (map written_paragraph both_program.text)
+unfolding lines_tokens text_tokens front_of turns parts.subscript_value parts.subscript parts.identifier parts.identifiers parts.constant parts.operand statement.read_move statement.read_go statement.read_stop statement.read_plain division.read_statement division.read_statements division.read_sentence division.read_sentences division.read_paragraph division.read_paragraphs division.read_division
+both_is_read = refl
+
+unknown_is_read : division.read_procedure (drop 18 (tokens_from unknown)) ≡ Ok (map written_paragraph unknown_program.text)
+unfolding lines_tokens text_tokens front_of turns parts.subscript_value parts.subscript parts.identifier parts.identifiers parts.constant parts.operand statement.read_move statement.read_go statement.read_stop statement.read_plain division.read_statement division.read_statements division.read_sentence division.read_sentences division.read_paragraph division.read_paragraphs division.read_division
+unknown_is_read = refl
+
+both_is_divided : IsDivisionOf (tokens_from both) 18 (told (tokens_from both))
+unfolding lines_tokens text_tokens front_of next reading input_field_of output_field_of
+both_is_divided = record {
+  complete = refl;
+  within = omega arith;
+  program = refl;
+  source_computer = refl;
+  object_computer = refl;
+  working_storage = refl;
+  communication = refl;
+}
+
+unknown_is_divided : IsDivisionOf (tokens_from unknown) 18 (told (tokens_from unknown))
+unfolding lines_tokens text_tokens front_of next reading input_field_of output_field_of
+unknown_is_divided = record {
+  complete = refl;
+  within = omega arith;
+  program = refl;
+  source_computer = refl;
+  object_computer = refl;
+  working_storage = refl;
+  communication = refl;
+}
+
+both_is_spelled : Spells (tokens_from both) both_program
+unfolding lines_tokens text_tokens front_of next reading input_field_of output_field_of
+both_is_spelled = record {
+  no_fault = refl;
+  place = 18;
+  division = told (tokens_from both);
+  is_division = both_is_divided;
+  is_procedure = spelled both_program.text _ both_is_read;
+  layout = refl;
+}
+
+unknown_is_spelled : Spells (tokens_from unknown) unknown_program
+unfolding lines_tokens text_tokens front_of next reading input_field_of output_field_of
+unknown_is_spelled = record {
+  no_fault = refl;
+  place = 18;
+  division = told (tokens_from unknown);
+  is_division = unknown_is_divided;
+  is_procedure = spelled unknown_program.text _ unknown_is_read;
+  layout = refl;
+}
+
+-- an item and a paragraph may have one name
+both_is_program : IsProgramOf both both_program
+unfolding lines_tokens text_tokens front_of
+both_is_program = record { tokens = tokens_from both; are_tokens = refl; spells = both_is_spelled; no_fault = refl }
+
+-- a name that stands for nothing
+unknown_name : IsSourceFaultOf unknown (fault 8 25 faults.UnknownName)
+unfolding lines_tokens text_tokens front_of
+unknown_name = inr (record { tokens = tokens_from unknown; program = unknown_program; are_tokens = refl; spells = unknown_is_spelled; is_found = refl })
+
+-- the procedure pass is the earlier one: what it finds in line 9 is told, and not the name in line 8
+wanted_before_unknown : IsSourceFaultOf (with_sentences (codes "           MOVE MAIN TO Z.") (codes "           STOP.")) (fault 9 16 faults.WantedWord)
+unfolding lines_tokens text_tokens front_of next reading
+wanted_before_unknown = inl refl
+
+-- so is a comparison without an identifier
+constants_before_unknown : IsSourceFaultOf (with_sentences (codes "           MOVE MAIN TO Z.") (codes "           IF 1 = 2 STOP RUN.")) (fault 9 15 faults.WrongKind)
+unfolding lines_tokens text_tokens front_of next reading
+constants_before_unknown = inl refl
