@@ -1,5 +1,5 @@
-//! What a program of cases needs. It reads a table from standard input, a call with its arguments on
-//! each line, and prints each line again with what the call answered behind it, without spaces at
+//! What a program of cases needs. It reads a table from standard input, a call with its arguments
+//! on each line, and prints each line again with what the call answered after it, without spaces at
 //! its end.
 //!
 //! ```rust
@@ -24,11 +24,11 @@
 //! }
 //! ```
 //!
-//! The line `take_counted "3:a\n\"rest"` is then printed as `take_counted "3:a\n\"rest" = Some((2, 5))`. Empty
-//! lines and those that begin with `#` are printed as they are.
+//! The line `take_counted "3:a\n\"rest"` is then printed as `take_counted "3:a\n\"rest" = Some((2,
+//! 5))`. Empty lines and those that begin with `#` are printed as they are.
 //!
-//! No function here has a clause: a table is compared with what was worked out by hand, so a word that
-//! is read wrong shows there.
+//! No function here has a clause: a table is compared with what was worked out by hand, so a word
+//! that is read wrong shows there.
 #![tactic(auto)]
 
 mod quoted;
@@ -42,7 +42,7 @@ pub use words::{Words, words_of};
 /// What answers the cases of a table, one after another. What it keeps from one case to the next is
 /// its own.
 pub trait Cases {
-    /// What the call of this name answers to the words behind it.
+    /// What the call of this name answers to the words after it.
     fn answer(&mut self, call: &[u8], words: &mut Words<'_>) -> Result<String, AllocError>;
 }
 

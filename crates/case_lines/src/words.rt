@@ -52,7 +52,7 @@ impl<'a> Words<'a> {
 }
 
 /// The words of a line, with spaces between them. A word in quotes may have any byte: a quote and a
-/// backslash stand behind a backslash, and `\n`, `\r`, `\t` and `\x` with two hexadecimal digits are
+/// backslash come after a backslash, and `\n`, `\r`, `\t` and `\x` with two hexadecimal digits are
 /// single bytes.
 pub fn words_of(alloc: Global, line: &str) -> Result<Vec<Vec<u8>>, AllocError> {
     let mut words = Vec::new(alloc);
@@ -69,7 +69,7 @@ pub fn words_of(alloc: Global, line: &str) -> Result<Vec<Vec<u8>>, AllocError> {
     Ok(words)
 }
 
-/// The first word, and what stands behind it.
+/// The first word, and what comes after it.
 fn first_word(alloc: Global, line: &[u8]) -> Result<(Vec<u8>, &[u8]), AllocError> {
     if let [b'"', quoted @ ..] = line {
         return quoted_word(alloc, quoted);
@@ -79,7 +79,7 @@ fn first_word(alloc: Global, line: &[u8]) -> Result<(Vec<u8>, &[u8]), AllocError
     Ok((Vec::from_slice(alloc, word)?, behind))
 }
 
-/// The word whose opening quote stands before these bytes, and what stands behind its closing one.
+/// The word whose opening quote stands before these bytes, and what comes after its closing one.
 fn quoted_word(alloc: Global, quoted: &[u8]) -> Result<(Vec<u8>, &[u8]), AllocError> {
     let mut word = Vec::new(alloc);
     let mut left = quoted;
@@ -100,7 +100,7 @@ fn quoted_word(alloc: Global, quoted: &[u8]) -> Result<(Vec<u8>, &[u8]), AllocEr
     Ok((word, left))
 }
 
-/// The byte that a letter behind a backslash stands for.
+/// The byte that a letter after a backslash stands for.
 fn escaped(letter: u8) -> u8 {
     match letter {
         b'n' => b'\n',

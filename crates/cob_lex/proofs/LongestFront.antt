@@ -1,4 +1,4 @@
--- A token at the front of bytes is the longest there.
+-- A token at the beginning of bytes is the longest there.
 use Rattle.std.proofs.Common.{◌≡◌, ◌≢◌, ℕ, ◌+◌, ◌≤◌, true, false, ◌&&◌, ◌==◌, cond, nat_le, List, [], ◌∷◌, length, take, drop, Option, Some, None, inl, inr, refl, ap, sym, subst, ◌∙◌, arith, codes, length-append}
 use Rattle.std.specs.List.{take_while}
 use Rattle.std.specs.Str.{bytes_eq}

@@ -20,7 +20,7 @@ pub drop_before : (a b : List ℕ) → drop (length a) (a ++ b) ≡ b
 drop_before [] b = refl
 drop_before (x ∷ a) b = drop_before a b
 
--- the bytes before the closing quotation mark, and those behind it
+-- the bytes before the closing quotation mark, and those after it
 pub record Closes (rest : List ℕ) (n : ℕ) : Type 0 where
   pub inside : List ℕ
   pub behind : List ℕ
@@ -93,7 +93,7 @@ closes (x ∷ y ∷ rest) n h =
           }
     ]
 
--- a literal of so many bytes behind its opening quotation mark
+-- a literal of so many bytes after its opening quotation mark
 quoted : (x : ℕ) (xs : List ℕ) (m : ℕ) → is_quote x ≡ true → Closes xs m → is_literal (take m xs) ≡ true → Plainly tokens.Literal (m + 2) (x ∷ xs)
 quoted x xs m quote c sized =
     let inside : List ℕ = c.inside in

@@ -10,7 +10,7 @@ use Rattle.cob_lex.specs.Fronts.{picture_run}
 use Rattle.cob_lex.specs.Spelled.{IsPictureRun, is_next, is_to_space}
 use Rattle.cob_lex.proofs.Longest.{chosen, run_ends, run_passes}
 
--- bytes are a picture's run and what is behind it
+-- bytes are a picture's run and what is after it
 pub record Splits (bytes : List ℕ) : Type 0 where
   pub behind : List ℕ
   pub written : bytes ≡ picture_run bytes ++ behind
@@ -28,7 +28,7 @@ no_not : (b : Bool) → not b ≡ false → b ≡ true
 no_not true h = refl
 no_not false h = cc
 
--- a space or the end of the line is behind the run
+-- a space or the end of the line is after the run
 space_is_next : (rest : List ℕ) → is_next is_no_space rest ≡ false → space_next rest ≡ true
 space_is_next [] h = refl
 space_is_next (y ∷ ys) h = no_not (is_space y) h

@@ -22,7 +22,7 @@ pub of_token : (awaits : Awaited) (place : Place) (at : ℕ) (bytes : List ℕ) 
 of_token awaits place at bytes kind n (Refused fault) some long h read = token_refused awaits place at bytes kind n fault some long h read
 of_token awaits place at bytes kind n (Memory error) some long h read = tt
 
--- an error behind some tokens is that of all
+-- an error after some tokens is that of all
 no_front : (ts : List Token) (meant : Result Taken SourceFault) (fault : SourceFault) → with_front ts meant ≡ Err fault → meant ≡ Err fault
 no_front ts (Ok others) fault h = cc
 no_front ts (Err other) fault h = h
@@ -51,7 +51,7 @@ joined : (ts xs : List Token) (others : Result (List Token) SourceFault) → wit
 joined ts xs (Ok others) = ap Ok (sym (append_assoc ts xs others))
 joined ts xs (Err fault) = refl
 
--- the tokens of one line, and what comes behind them
+-- the tokens of one line, and what comes after them
 line_taken : (here : Result Taken SourceFault) (others : Awaited → Result (List Token) SourceFault) (ts us : List Token) (next : Awaited) → with_front ts here ≡ Ok (taken us next) → with_tokens ts (here >>= (λ here. others here.awaited >>= (λ others. Ok (here.tokens ++ others)))) ≡ with_tokens us (others next)
 unfolding tokens_in awaited_in
 line_taken (Ok t) others ts us next h =

@@ -1,4 +1,4 @@
--- The longest run at the front of a list that passes a test.
+-- The longest run at the beginning of a list that passes a test.
 use Rattle.std.proofs.Common.{◌≡◌, ℕ, ◌≤◌, Bool, not, cond, ltb, List, [], ◌∷◌, length, take, Option, Some, None, refl, ap, ◌∙◌, arith}
 use Rattle.std.specs.List.{prefix_len, position_or_len, take_while}
 use Rattle.std.specs.Option.{unwrap_or}

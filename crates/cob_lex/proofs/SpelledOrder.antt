@@ -1,4 +1,5 @@
--- Spelled tokens stand in order: each at a later line than the one before it, or in its line at a later column.
+-- Spelled tokens stand in order: each at a later line than the one before it, or in its line at a
+-- later column.
 use Rattle.std.proofs.Common.{◌≡◌, ℕ, zero, suc, ◌+◌, ◌≤◌, Bool, true, false, ◌&&◌, ◌||◌, ◌==◌, nat_lt, cond, List, [], ◌∷◌, ◌++◌, length, drop, ap, subst, ◌∙◌, arith, append-nil, Ok}
 use Rattle.std.proofs.lemmas.Grind.{common_steps}
 use Rattle.std.proofs.lemmas.Bool.Decides.{nat_tests}
@@ -21,7 +22,7 @@ use Rattle.cob_lex.proofs.SpelledTokens.{lines_spelled}
 abbrev is_past : ℕ → ℕ → ℕ → ℕ → Bool
 is_past line column m d = nat_lt line m || (line == m && nat_lt column d)
 
--- Tokens behind a place, each behind the one before, up to a line.
+-- Tokens after a place, each after the one before, up to a line.
 abbrev AreFrom : ℕ → ℕ → List Token → ℕ → Type 0
 AreFrom line column [] last = line ≤ last
 AreFrom line column (t ∷ ts) last = (is_past line column t.line t.column ≡ true) × AreFrom t.line t.column ts last
@@ -46,7 +47,7 @@ to_line : (l c : ℕ) (ts : List Token) (last end : ℕ) → last ≤ end → Ar
 to_line l c [] last end le h = omega (arith, h, le)
 to_line l c (t ∷ ts) last end le h = (h.0, to_line t.line t.column ts last end le h.1)
 
--- tokens of later lines behind those of a line
+-- tokens of later lines after those of a line
 join : (l c : ℕ) (xs ys : List Token) (last end : ℕ) → last ≤ end → AreFrom l c xs last → AreFrom (last + 1) 0 ys end → AreFrom l c (xs ++ ys) end
 join l c [] [] last end le h k = omega (arith, h, le)
 join l c [] (y ∷ ys) last end le h k = (later_line l c last y.line y.column h k.0, k.1)
@@ -105,7 +106,7 @@ tokens_in_order source tokens h =
     let spelled = lines_spelled (source_lines source) awaited.Nothing tokens h in
     all_in_order 1 0 tokens (1 + length parts) (lines_from false awaited.Nothing 1 0 parts tokens spelled)
 
--- so are those that are left behind some
+-- so are those that are left after some
 pub order_behind : (n : ℕ) (ts : List Token) → AreInOrder ts → AreInOrder (drop n ts)
 order_behind zero ts h = h
 order_behind (suc n) [] h = tt

@@ -28,7 +28,7 @@ drop_drop zero n xs = ap (λ k. drop k xs) (omega arith)
 drop_drop (suc m) n [] = drop_all n [] (omega arith) ∙ sym (drop_all (suc m + n) [] (omega arith))
 drop_drop (suc m) n (x ∷ xs) = let e : suc (m + n) ≡ suc m + n = omega arith in drop_drop m n xs ∙ ap (λ k. drop k (x ∷ xs)) e
 
--- what is behind the front of such a rest
+-- what is after the beginning of such a rest
 stands_behind : (source : List ℕ) (start n : ℕ) (front behind : List ℕ) → n ≡ start + length front → Stands source start (front ++ behind) → Stands source n behind
 unfolding Stands
 stands_behind source start n front behind is (more, h) =

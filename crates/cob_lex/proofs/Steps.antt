@@ -35,7 +35,7 @@ unfolding text_tokens
 refused awaits place at [] kind some h = absurd (omega arith)
 refused awaits place at (x ∷ xs) kind some h = ap (λ f. by_front awaits place at (x ∷ xs) f (λ next behind. text_tokens next behind place (at + 1) xs)) h
 
--- a token, and what comes behind it
+-- a token, and what comes after it
 pub token_and_others : (read : Result Token SourceFault) (others : Result Taken SourceFault) (token : Token) → read ≡ Ok token → (read >>= (λ token. others >>= (λ others. Ok (with_token token others)))) ≡ with_front (token ∷ []) others
 token_and_others read (Ok others) token h = ap (λ r. r >>= (λ token. Ok (with_token token others))) h
 token_and_others read (Err fault) token h = ap (λ r. r >>= (λ token. Err fault)) h
@@ -43,7 +43,7 @@ token_and_others read (Err fault) token h = ap (λ r. r >>= (λ token. Err fault
 pub bad_token : (read : Result Token SourceFault) (others : Result Taken SourceFault) (fault : SourceFault) → read ≡ Err fault → (read >>= (λ token. others >>= (λ others. Ok (with_token token others)))) ≡ Err fault
 bad_token read others fault h = ap (λ r. r >>= (λ token. others >>= (λ others. Ok (with_token token others)))) h
 
--- what stands behind a token at the front
+-- what comes after a token at the front
 behind_token : (awaits : Awaited) (place : Place) (at n : ℕ) (x : ℕ) (xs : List ℕ) → 1 ≤ n → text_tokens awaits (n - 1) place (at + 1) xs ≡ fronted awaits place (at + n) (drop n (x ∷ xs))
 behind_token awaits place at zero x xs some = absurd (omega arith)
 behind_token awaits place at (suc n) x xs some =

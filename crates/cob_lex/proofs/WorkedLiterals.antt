@@ -7,7 +7,7 @@ abbrev marks : ℕ → List ℕ
 marks zero = []
 marks (suc n) = 34 ∷ marks n
 
--- so many letters, and quotation marks behind them
+-- so many letters, and quotation marks after them
 abbrev letters : ℕ → List ℕ → List ℕ
 letters zero behind = behind
 letters (suc n) behind = 65 ∷ letters n behind

@@ -51,7 +51,7 @@ return_in_column_7 : tokens_of (codes "      " ++ 13 ∷ []) ≡ Err (fault 1 7 
 unfolding lines_tokens text_tokens front_of
 return_in_column_7 = refl
 
--- column 72 is read, and what is behind it is not
+-- column 72 is read, and what is after it is not
 column_72 : tokens_of (source (codes "       A                                                               B%" ∷ codes "       A                                                               BCD" ∷ [])) ≡ Ok (on 1 0 (word 8 (codes "A") ∷ word 72 (codes "B") ∷ []) ++ on 2 74 (word 8 (codes "A") ∷ word 72 (codes "B") ∷ []))
 unfolding lines_tokens text_tokens front_of
 column_72 = refl
@@ -61,7 +61,7 @@ period_in_column_72 : tokens_of (source (codes "       A                        
 unfolding lines_tokens text_tokens front_of
 period_in_column_72 = refl
 
--- a quotation mark behind column 72 closes no literal
+-- a quotation mark after column 72 closes no literal
 literal_past_column_72 : tokens_of (source (codes "                                                                     \"AB\"" ∷ [])) ≡ Err (fault 1 70 faults.BadCharacter)
 unfolding lines_tokens text_tokens front_of
 literal_past_column_72 = refl
@@ -86,7 +86,7 @@ comments : tokens_of (source (codes "      * %" ∷ codes "      /%\"" ∷ codes
 unfolding lines_tokens text_tokens front_of
 comments = refl
 
--- a comment paragraph goes on over lines with a blank area A
+-- a comment-entry goes on over lines with a blank area A
 author : tokens_of (source (codes "       AUTHOR. me." ∷ codes "           % more" ∷ codes "       " ∷ codes "12" ∷ codes "         " ∷ codes "       A." ∷ [])) ≡ Ok (on 6 58 (word 8 (codes "A") ∷ period 9 (codes ".") ∷ []))
 unfolding lines_tokens text_tokens front_of
 author = refl
@@ -136,7 +136,7 @@ heading_on_two_lines : tokens_of (source (codes "       AUTHOR" ∷ codes "     
 unfolding lines_tokens text_tokens front_of
 heading_on_two_lines = refl
 
--- column 7 is looked at in a comment paragraph, too
+-- column 7 is looked at in a comment-entry, too
 indicator_in_paragraph : tokens_of (source (codes "       AUTHOR." ∷ codes "      X    A" ∷ [])) ≡ Err (fault 2 7 faults.BadColumn)
 unfolding lines_tokens text_tokens front_of
 indicator_in_paragraph = refl
@@ -171,7 +171,7 @@ hyphen_in_front : tokens_of (source (codes "       -A" ∷ [])) ≡ Err (fault 1
 unfolding lines_tokens text_tokens front_of
 hyphen_in_front = refl
 
--- nor behind
+-- nor after
 hyphen_behind : tokens_of (source (codes "       A- B" ∷ [])) ≡ Err (fault 1 8 faults.BadWord)
 unfolding lines_tokens text_tokens front_of
 hyphen_behind = refl
@@ -236,12 +236,12 @@ byte_in_open_literal : tokens_of (source ((codes "       \"A" ++ (9 ∷ []) ++ c
 unfolding lines_tokens text_tokens front_of
 byte_in_open_literal = refl
 
--- a picture is the run behind PIC
+-- a picture is the run after PIC
 picture_behind_pic : tokens_of (source (codes "           A PIC X(4)." ∷ [])) ≡ Ok (on 1 0 (word 12 (codes "A") ∷ word 14 (codes "PIC") ∷ picture 18 (codes "X(4)") ∷ period 22 (codes ".") ∷ []))
 unfolding lines_tokens text_tokens front_of
 picture_behind_pic = refl
 
--- or behind PICTURE IS
+-- or after PICTURE IS
 picture_is : tokens_of (source (codes "           PICTURE IS 9, A" ∷ [])) ≡ Ok (on 1 0 (word 12 (codes "PICTURE") ∷ word 20 (codes "IS") ∷ picture 23 (codes "9") ∷ word 26 (codes "A") ∷ []))
 unfolding lines_tokens text_tokens front_of
 picture_is = refl
@@ -261,12 +261,12 @@ picture_without_period : tokens_of (source (codes "           PIC .X" ∷ [])) �
 unfolding lines_tokens text_tokens front_of
 picture_without_period = refl
 
--- a period alone is none, and none is awaited behind it
+-- a period alone is none, and none is awaited after it
 no_picture : tokens_of (source (codes "           PIC . %" ∷ [])) ≡ Err (fault 1 18 faults.BadCharacter)
 unfolding lines_tokens text_tokens front_of
 no_picture = refl
 
--- also behind IS
+-- also after IS
 no_picture_behind_is : tokens_of (source (codes "           PIC IS. A" ∷ [])) ≡ Ok (on 1 0 (word 12 (codes "PIC") ∷ word 16 (codes "IS") ∷ period 18 (codes ".") ∷ word 20 (codes "A") ∷ []))
 unfolding lines_tokens text_tokens front_of
 no_picture_behind_is = refl
@@ -281,7 +281,7 @@ is_as_picture : tokens_of (source (codes "           PIC IS IS IS" ∷ [])) ≡ 
 unfolding lines_tokens text_tokens front_of
 is_as_picture = refl
 
--- so is a second PIC, and nothing is awaited behind it
+-- so is a second PIC, and nothing is awaited after it
 pic_as_picture : tokens_of (source (codes "           PIC PIC IS A%" ∷ [])) ≡ Err (fault 1 24 faults.BadCharacter)
 unfolding lines_tokens text_tokens front_of
 pic_as_picture = refl
@@ -291,7 +291,7 @@ picture_at_once : tokens_of (source (codes "           PIC(X)" ∷ [])) ≡ Ok (
 unfolding lines_tokens text_tokens front_of
 picture_at_once = refl
 
--- no picture comes behind another word
+-- no picture comes after another word
 pictures : tokens_of (source (codes "           PICS X. A-PIC Y." ∷ [])) ≡ Ok (on 1 0 (word 12 (codes "PICS") ∷ word 17 (codes "X") ∷ period 18 (codes ".") ∷ word 20 (codes "A-PIC") ∷ word 26 (codes "Y") ∷ period 27 (codes ".") ∷ []))
 unfolding lines_tokens text_tokens front_of
 pictures = refl
@@ -301,7 +301,7 @@ byte_in_picture : tokens_of (source ((codes "           PIC XX" ++ (127 ∷ []) 
 unfolding lines_tokens text_tokens front_of
 byte_in_picture = refl
 
--- a comment paragraph is no picture
+-- a comment-entry is no picture
 heading_is_no_picture : tokens_of (source (codes "           PIC" ∷ codes "       AUTHOR. %" ∷ codes "       X." ∷ [])) ≡ Ok (on 1 0 (word 12 (codes "PIC") ∷ []) ++ on 3 32 (picture 8 (codes "X") ∷ period 9 (codes ".") ∷ []))
 unfolding lines_tokens text_tokens front_of
 heading_is_no_picture = refl

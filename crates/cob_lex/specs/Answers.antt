@@ -6,17 +6,17 @@ use Rattle.cob_lex.specs.declared.fault.SourceError.TheVariants.{Refused, Memory
 use Rattle.cob_lex.specs.declared.token.Token.{Token}
 use Rattle.cob_lex.specs.Lexing.{Taken, taken}
 
--- An error is the refusal of the fault that is meant. Want of memory says nothing.
+-- An error is the refusal of the fault that is meant. Out of memory says nothing.
 abbrev pub IsRefusal : {A : Type 0} → SourceError → Result A SourceFault → Type 0
 IsRefusal (Refused fault) meant = meant ≡ Err fault
 IsRefusal (Memory error) meant = Unit {0}
 
--- what was taken behind tokens that were there before
+-- what was taken after tokens that were there before
 abbrev pub with_front : List Token → Result Taken SourceFault → Result Taken SourceFault
 with_front tokens (Ok others) = Ok (taken (tokens ++ others.tokens) others.awaited)
 with_front tokens (Err fault) = Err fault
 
--- tokens behind tokens that were there before
+-- tokens after tokens that were there before
 abbrev pub with_tokens : List Token → Result (List Token) SourceFault → Result (List Token) SourceFault
 with_tokens tokens (Ok others) = Ok (tokens ++ others)
 with_tokens tokens (Err fault) = Err fault

@@ -41,8 +41,8 @@ abbrev pub space_next : List ℕ → Bool
 space_next [] = true
 space_next (byte ∷ rest) = is_space byte
 
--- a byte, with the rest behind it, that only stands between tokens: a space, or a comma or a semicolon
--- before a space or the end of the line
+-- a byte, with the rest after it, that only stands between tokens: a space, or a comma or a
+-- semicolon before a space or the end of the line
 abbrev pub is_spacing : ℕ → List ℕ → Bool
 is_spacing byte rest = is_space byte || (is_comma byte && space_next rest)
 

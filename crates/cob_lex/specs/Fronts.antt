@@ -1,4 +1,4 @@
--- What stands at the front of the rest of a line.
+-- What stands at the beginning of the rest of a line.
 use Rattle.std.specs.Prelude.{ℕ, ◌≤◌, ◌+◌, ◌-◌, Bool, true, false, not, ◌&&◌, ◌||◌, ◌==◌, nat_le, if◌then◌else◌, List, length, slice_index, take, drop, take_while, Option, Some, None, codes, bytes_eq}
 use Rattle.std.specs.List.{list_all, list_any}
 use Rattle.com_text.specs.Name.{is_letter, is_digit, is_hyphen}
@@ -31,7 +31,7 @@ run_front run =
     else if is_number run then fronts.Token tokens.Number (length run)
     else fronts.Fault faults.BadWord
 
--- a literal, by the bytes behind its opening quotation mark
+-- a literal, by the bytes after its opening quotation mark
 abbrev pub literal_front : List ℕ → Option ℕ → Front
 literal_front rest None = fronts.Fault faults.BadCharacter
 literal_front rest (Some n) =
@@ -86,7 +86,7 @@ picture_front awaits run =
     if is_awaited_is awaits run then fronts.Token tokens.Word (length run)
     else fronts.Token tokens.Picture (length run)
 
--- what stands at the front of bytes, of which there is one at least
+-- what stands at the beginning of bytes, of which there is one at least
 unfoldable pub front_of : Awaited → List ℕ → Front
 front_of awaits bytes =
     if is_picture_front awaits (picture_run bytes)
@@ -99,11 +99,11 @@ FitsIn fronts.Spacing size = Unit {0}
 FitsIn (fronts.Token kind n) size = (1 ≤ n) × (n ≤ size)
 FitsIn (fronts.Fault kind) size = Unit {0}
 
--- the words behind which a picture comes
+-- the words after which a picture comes
 abbrev pub is_picture_word : List ℕ → Bool
 is_picture_word text = bytes_eq text (codes "PIC") || bytes_eq text (codes "PICTURE")
 
--- what is awaited behind a token
+-- what is awaited after a token
 abbrev pub awaited_behind : Awaited → TokenKind → List ℕ → Awaited
 awaited_behind awaits tokens.Word text =
     if is_picture_word text then awaited.IsOrPicture

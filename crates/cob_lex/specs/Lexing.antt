@@ -22,11 +22,11 @@ abbrev pub ◌>>=◌ : {A B : Type 0} → Result A SourceFault → (A → Result
 (Ok x) >>= next = next x
 (Err fault) >>= next = Err fault
 
--- a fault so many bytes behind the first byte of its line
+-- a fault so many bytes after the first byte of its line
 abbrev pub fault_at : Place → ℕ → SourceKind → SourceFault
 fault_at place at kind = record { line = place.line; column = at + 1; kind = kind }
 
--- a token so many bytes behind the first byte of its line
+-- a token so many bytes after the first byte of its line
 abbrev pub token_at : Place → ℕ → TokenKind → List ℕ → Token
 token_at place at kind text = record {
   kind = kind;
@@ -45,7 +45,7 @@ sound_token place at kind text (Some bad) = Err (fault_at place bad faults.BadCh
 abbrev pub token_of : Place → ℕ → TokenKind → List ℕ → Result Token SourceFault
 token_of place at kind text = sound_token place at kind text (position_from is_no_text_byte at text)
 
--- tokens, and what is awaited behind them
+-- tokens, and what is awaited after them
 pub record Taken : Type 0 where
   pub tokens : List Token
   pub awaited : Awaited
@@ -56,7 +56,7 @@ taken tokens awaited = record { tokens = tokens; awaited = awaited }
 abbrev pub with_token : Token → Taken → Taken
 with_token token others = taken (token ∷ others.tokens) others.awaited
 
--- by what stands at the front of a rest, and what comes of the rest behind so many more bytes
+-- by what stands at the beginning of a rest, and what comes of the rest after so many more bytes
 abbrev pub by_front : Awaited → Place → ℕ → List ℕ → Front → (Awaited → ℕ → Result Taken SourceFault) → Result Taken SourceFault
 by_front awaits place at rest fronts.Spacing next = next awaits 0
 by_front awaits place at rest (fronts.Token kind length) next = do
@@ -65,8 +65,8 @@ by_front awaits place at rest (fronts.Token kind length) next = do
   Ok (with_token token others)
 by_front awaits place at rest (fronts.Fault kind) next = Err (fault_at place at kind)
 
--- the tokens of a rest that is so many bytes behind the first byte of its line; some bytes at its front
--- belong to the token before
+-- the tokens of a rest that is so many bytes after the first byte of its line; some bytes at its
+-- front belong to the token before
 unfoldable pub text_tokens : Awaited → ℕ → Place → ℕ → List ℕ → Result Taken SourceFault
 text_tokens awaits behind place at [] = Ok (taken [] awaits)
 text_tokens awaits (suc behind) place at (byte ∷ rest) = text_tokens awaits behind place (at + 1) rest

@@ -9,8 +9,8 @@ use Rattle.cob_lex.specs.Characters.{is_space, is_line_feed, is_return, is_perio
 abbrev pub place : ℕ → ℕ → Place
 place line start = record { line = line; start = start }
 
--- Lines end with LF or CR LF. Of what stands between LFs, from a line and its place on, each part is a
--- line without its end; the last one has no end, and is no line where it is empty.
+-- Lines end with LF or CR LF. Of what stands between LFs, from a line and its place on, each part
+-- is a line without its end; the last one has no end, and is no line where it is empty.
 abbrev pub placed : ℕ → ℕ → List (List ℕ) → List (Place × List ℕ)
 placed line start [] = []
 placed line start (part ∷ []) = if length part == 0 then [] else (place line start, part) ∷ []
@@ -35,7 +35,7 @@ text_of line = drop 7 (take 72 line)
 abbrev pub is_area_a_blank : List ℕ → Bool
 is_area_a_blank text = list_all is_space (take 4 text)
 
--- what is left behind spaces, and commas and semicolons that are like one
+-- what is left after spaces, and commas and semicolons that are like one
 abbrev pub behind_spacing : List ℕ → List ℕ
 behind_spacing [] = []
 behind_spacing (byte ∷ rest) = if is_spacing byte rest then behind_spacing rest else byte ∷ rest
@@ -45,7 +45,7 @@ abbrev pub period_next : List ℕ → Bool
 period_next [] = false
 period_next (byte ∷ rest) = is_period byte && space_next rest
 
--- the words that head a comment paragraph
+-- the words that head a comment-entry
 abbrev pub heads_comment : List ℕ → Bool
 heads_comment word =
     bytes_eq word (codes "AUTHOR") || bytes_eq word (codes "INSTALLATION") || bytes_eq word (codes "DATE-WRITTEN")
@@ -74,7 +74,7 @@ text_kind in_paragraph text =
     else if begins_paragraph text then kinds.CommentParagraph
     else kinds.Text
 
--- what a line is, where it may stand behind a heading of a comment paragraph
+-- what a line is, where it may come after a heading of a comment-entry
 abbrev pub line_kind : Bool → List ℕ → LineKind
 line_kind in_paragraph line =
     if nat_lt (length line) 7 then kinds.Comment
@@ -82,7 +82,7 @@ line_kind in_paragraph line =
     else if not (is_space (slice_index line 6)) then kinds.BadColumn
     else text_kind in_paragraph (text_of line)
 
--- whether a comment paragraph goes on behind a line
+-- whether a comment-entry goes on after a line
 abbrev pub paragraph_behind : Bool → LineKind → Bool
 paragraph_behind in_paragraph kinds.Comment = in_paragraph
 paragraph_behind in_paragraph kinds.CommentParagraph = true

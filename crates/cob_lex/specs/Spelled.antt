@@ -1,5 +1,5 @@
--- The tokens of a source by themselves: what each of them is, where it stands, and what stands between
--- them.
+-- The tokens of a source by themselves: what each of them is, where it stands, and what stands
+-- between them.
 use Rattle.std.specs.Prelude.{◌≡◌, ◌≢◌, ℕ, ◌+◌, ◌-◌, ◌<◌, ◌≤◌, Bool, true, false, not, ◌&&◌, if◌then◌else◌, List, [], ◌∷◌, ◌++◌, length, slice_index, slice_range, All, codes}
 use Rattle.std.specs.List.{list_all}
 use Rattle.com_text.specs.Text.{IsText}
@@ -22,7 +22,7 @@ abbrev pub is_next : (ℕ → Bool) → List ℕ → Bool
 is_next test [] = false
 is_next test (byte ∷ rest) = test byte
 
--- A run is the longest: all its bytes are of words, and what is behind it begins with no such byte.
+-- A run is the longest: all its bytes are of words, and what is after it begins with no such byte.
 pub record IsRun (text behind : List ℕ) : Type 0 where
   pub inside : list_all is_word_byte text ≡ true
   pub longest : is_next is_word_byte behind ≡ false
@@ -42,7 +42,7 @@ pub record IsQuoted (text behind : List ℕ) : Type 0 where
   pub sized : is_literal inside ≡ true
   pub longest : is_next is_quote behind ≡ false
 
--- A run goes up to a space or the end of the line, but for one last period, comma or semicolon.
+-- A run goes up to a space or the end of the line, except one last period, comma or semicolon.
 abbrev pub is_to_space : List ℕ → List ℕ → Bool
 is_to_space text [] = not (is_separator (slice_index text (length text - 1)))
 is_to_space text (byte ∷ rest) =
@@ -53,7 +53,7 @@ pub record IsPictureRun (text behind : List ℕ) : Type 0 where
   pub inside : list_all is_no_space text ≡ true
   pub longest : is_to_space text behind ≡ true
 
--- what a text is as a token, by what is behind it, where no picture may come
+-- what a text is as a token, by what is after it, where no picture may come
 abbrev pub IsPlain : TokenKind → List ℕ → List ℕ → Type 0
 IsPlain tokens.Word text behind = (is_word text ≡ true) × IsRun text behind
 IsPlain tokens.Number text behind = (is_number text ≡ true) × IsRun text behind
@@ -66,14 +66,14 @@ IsPlain tokens.Equal text behind = text ≡ codes "="
 IsPlain tokens.Greater text behind = text ≡ codes ">"
 IsPlain tokens.Less text behind = text ≡ codes "<"
 
--- behind PIC or PICTURE
+-- after PIC or PICTURE
 abbrev pub IsPictureOrIs : TokenKind → List ℕ → List ℕ → Type 0
 IsPictureOrIs tokens.Word text behind = (text ≡ codes "IS") × IsPictureRun text behind
 IsPictureOrIs tokens.Picture text behind = (text ≢ codes "IS") × IsPictureRun text behind
 IsPictureOrIs tokens.Period text behind = IsPlain tokens.Period text behind
 IsPictureOrIs kind text behind = ⊥
 
--- behind their IS
+-- after their IS
 abbrev pub IsPicture : TokenKind → List ℕ → List ℕ → Type 0
 IsPicture tokens.Picture text behind = IsPictureRun text behind
 IsPicture tokens.Period text behind = IsPlain tokens.Period text behind
@@ -84,16 +84,16 @@ IsLongest awaited.Nothing kind text behind = IsPlain kind text behind
 IsLongest awaited.IsOrPicture kind text behind = IsPictureOrIs kind text behind
 IsLongest awaited.Picture kind text behind = IsPicture kind text behind
 
--- a token so many bytes behind the first byte of its line, before the rest of the line
+-- a token so many bytes after the first byte of its line, before the rest of the line
 pub record IsTokenAt (awaits : Awaited) (place : Place) (at : ℕ) (token : Token) (behind : List ℕ) : Type 0 where
   pub some : 1 ≤ length token.text
   pub characters : IsText token.text
   pub longest : IsLongest awaits token.kind token.text behind
   pub stands : token ≡ token_at place at token.kind token.text
 
--- The tokens of a rest so many bytes behind the first byte of its line, and what is awaited before and
--- behind them: between them, before them and behind them stand spaces, and commas and semicolons that are
--- like one, alone.
+-- The tokens of a rest so many bytes after the first byte of its line, and what is awaited before
+-- and after them: between them, before them and after them stand spaces, and commas and semicolons
+-- that are like one, alone.
 pub data IsSpelled : Awaited → Place → ℕ → List ℕ → List Token → Awaited → Type 0 where
   ends : {awaits : Awaited} {place : Place} {at : ℕ} → IsSpelled awaits place at [] [] awaits
   after_spacing : {awaits next : Awaited} {place : Place} {at byte : ℕ} {rest : List ℕ} {tokens : List Token}
@@ -118,8 +118,8 @@ pub data AreLines : Awaited → List Line → List Token → Type 0 where
       → tokens ≡ here ++ others → IsLine line.kind awaits line.place line.bytes here next
       → AreLines next lines others → AreLines awaits (line ∷ lines) tokens
 
--- Spans between two places, in order: none is empty, and each begins where the one before it ends, or
--- later.
+-- Spans between two places, in order: none is empty, and each begins where the one before it ends,
+-- or later.
 abbrev pub AreBetween : ℕ → List Token → ℕ → Type 0
 AreBetween from [] to = from ≤ to
 AreBetween from (token ∷ tokens) to =

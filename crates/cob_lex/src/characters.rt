@@ -16,7 +16,7 @@ pub(crate) fn space_next(rest: &[u8]) -> bool
     matches!(rest, [] | [b' ', ..])
 }
 
-/// Whether a byte, with the rest behind it, only stands between tokens.
+/// Whether a byte, with the rest after it, only stands between tokens.
 pub(crate) fn is_spacing(byte: u8, rest: &[u8]) -> bool
     ensures { result ≡ is_spacing byte rest.now }
 {

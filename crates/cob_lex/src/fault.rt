@@ -2,9 +2,10 @@
 use std::alloc::{AllocError, AllocFailed};
 use thiserror::Error;
 
-/// The kinds of fault of a source, in the order in which they are told where two stand at one place.
-/// `lex` answers `BadCharacter`, `BadColumn` and `BadWord`, and the readers of divisions `BadColumn` and the
-/// others but `UnknownName`, `LeavesRange` and `PerformsItself`, which no code answers yet.
+/// The kinds of fault of a source, in the order in which they are told where two stand at one
+/// place. `lex` answers `BadCharacter`, `BadColumn` and `BadWord`, and the readers of divisions
+/// `BadColumn` and the others but `UnknownName`, `LeavesRange` and `PerformsItself`, which no code
+/// answers yet.
 #[derive(Clone, Copy, Debug, PartialEq, Eq)]
 pub enum SourceKind {
     /// A character that may not stand there, or a literal without its closing quotation mark.

@@ -1,4 +1,4 @@
-//! What stands at the front of the rest of a line.
+//! What stands at the beginning of the rest of a line.
 ghost use Rattle.std.specs.Prelude.{◌≡◌, ◌+◌, ◌<◌, ◌≤◌, length};
 ghost use Rattle.cob_lex.specs.Fronts.{FitsIn, awaited_behind, front_of, is_awaited_is, literal_front, may_be_picture, picture_run, plain_front, run_front, sign_kind};
 ghost use Rattle.cob_lex.specs.Literals.{closing};
@@ -10,7 +10,7 @@ use crate::literal::closing;
 use crate::words::{is_is, is_number, is_picture_word, is_word};
 use crate::{SourceKind, TokenKind};
 
-/// What may come next behind PIC and PICTURE.
+/// What may come next after PIC and PICTURE.
 #[derive(Clone, Copy, Debug)]
 pub(crate) enum Awaited {
     /// No picture.
@@ -21,7 +21,7 @@ pub(crate) enum Awaited {
     Picture,
 }
 
-/// What stands at the front of the rest of a line.
+/// What stands at the beginning of the rest of a line.
 #[derive(Clone, Copy, Debug)]
 pub(crate) enum Front {
     /// A space, or a comma or semicolon that separates like one.
@@ -32,7 +32,7 @@ pub(crate) enum Front {
     Fault(SourceKind),
 }
 
-/// What stands at the front of the rest of a line.
+/// What stands at the beginning of the rest of a line.
 #[tactic(auto, unfolding(crate::specs::Fronts::front_of))]
 pub(crate) fn front_of(awaited: Awaited, bytes: &[u8]) -> Front
     requires not_empty { 1 ≤ length bytes.now }
@@ -55,7 +55,7 @@ pub(crate) fn front_of(awaited: Awaited, bytes: &[u8]) -> Front
     }
 }
 
-/// What is awaited behind a token.
+/// What is awaited after a token.
 pub(crate) fn awaited_behind(awaited: Awaited, kind: TokenKind, text: &[u8]) -> Awaited
     ensures { result ≡ awaited_behind awaited kind text.now }
 {
@@ -88,7 +88,7 @@ fn picture_run(bytes: &[u8]) -> &[u8]
     without_separator(run_to_space(bytes))
 }
 
-/// What stands at the front of the rest of a line, where it is no picture.
+/// What stands at the beginning of the rest of a line, where it is no picture.
 fn plain_front(bytes: &[u8]) -> Front
     requires not_empty { 1 ≤ length bytes.now }
     requires in_line { length bytes.now ≤ 72 }
@@ -127,7 +127,7 @@ fn run_front(run: &[u8]) -> Front
     }
 }
 
-/// A literal, by the bytes behind its opening quotation mark. It may have 120 characters, which is
+/// A literal, by the bytes after its opening quotation mark. It may have 120 characters, which is
 /// more than a line holds.
 fn literal_front(rest: &[u8]) -> Front
     requires in_line { length rest.now < 72 }

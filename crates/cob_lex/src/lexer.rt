@@ -17,7 +17,8 @@ use std::alloc::Global;
 /// How many bytes a source has at most.
 pub const MAX_SOURCE: usize = 1_048_576;
 
-/// The tokens of a source of at most [`MAX_SOURCE`] bytes, or its first fault. Memory: memory ran out.
+/// The tokens of a source of at most [`MAX_SOURCE`] bytes, or its first fault. Memory: memory ran
+/// out.
 pub fn lex(alloc: Global, bytes: &[u8]) -> Result<Rows<Token>, SourceError>
     requires { length bytes.now ≤ MAX_SOURCE }
     ensures tokens { IfOk result (λ tokens. tokens_of bytes.now ≡ Ok tokens) }
@@ -44,7 +45,7 @@ pub fn lex(alloc: Global, bytes: &[u8]) -> Result<Rows<Token>, SourceError>
     Ok(Rows::of_vec(tokens))
 }
 
-/// Adds the tokens of a line, and answers what is awaited behind them.
+/// Adds the tokens of a line, and answers what is awaited after them.
 fn read_line(
     tokens: &mut Vec<Token>,
     awaited: Awaited,
@@ -64,7 +65,7 @@ fn read_line(
     }
 }
 
-/// Adds the tokens of columns 8 to 72 of a line, and answers what is awaited behind them.
+/// Adds the tokens of columns 8 to 72 of a line, and answers what is awaited after them.
 fn read_text(
     tokens: &mut Vec<Token>,
     mut awaited: Awaited,
@@ -87,8 +88,8 @@ fn read_text(
     Ok(awaited)
 }
 
-/// Adds the token at the front of a rest, if it is one, and answers what is awaited behind it and
-/// how many bytes it has.
+/// Adds the token at the beginning of a rest, if it is one, and answers what is awaited after it
+/// and how many bytes it has.
 fn take_front(
     tokens: &mut Vec<Token>,
     awaited: Awaited,
@@ -147,7 +148,7 @@ fn read_token(
     })
 }
 
-/// The refusal of a source for a fault so many bytes behind the first byte of its line.
+/// The refusal of a source for a fault so many bytes after the first byte of its line.
 fn refusal(place: Place, at: usize, kind: SourceKind) -> SourceError
     requires { at ≤ 72 }
     ensures { result ≡ SourceError.Refused (fault_at place at kind) }

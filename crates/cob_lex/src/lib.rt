@@ -1,7 +1,7 @@
 //! The tokens of a COBOL source, in the reference format of ANSI X3.23-1974.
 //!
-//! `lex` gives the words, numbers, literals, pictures and signs of a source, each with its kind, its
-//! span, its line and column and its text, or the first fault. Comment lines and comment paragraphs
+//! `lex` gives the words, numbers, literals, pictures and signs of a source, each with its kind,
+//! its span, its line and column and its text, or the first fault. Comment lines and comment-entrys
 //! are passed over, and so is what stands outside columns 8 to 72.
 //!
 //! ```rust
@@ -12,9 +12,9 @@
 //! let refused = lex(alloc, b"       MOVE- 1 TO A.\n");
 //! ```
 //!
-//! Its contract stands on two definitions. `specs/Lexing.antt` goes over the lines of a source, and says
-//! what stands at the front of what is left of one. `specs/Spelled.antt` says by itself what tokens of a
-//! source are; that the first keeps to it is a law, `tokens_are_spelled`.
+//! Its contract stands on two definitions. `specs/Lexing.antt` goes over the lines of a source, and
+//! says what stands at the beginning of what is left of one. `specs/Spelled.antt` says by itself
+//! what tokens of a source are; that the first keeps to it is a law, `tokens_are_spelled`.
 #![tactic(auto)]
 
 mod characters;

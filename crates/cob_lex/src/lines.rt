@@ -19,7 +19,7 @@ pub(crate) struct Place {
 pub(crate) enum LineKind {
     /// It has fewer than seven columns, or is a comment.
     Comment,
-    /// It is a comment, and begins a comment paragraph.
+    /// It is a comment, and begins a comment-entry.
     CommentParagraph,
     /// Its column 7 holds something other than a space, `*` and `/`.
     BadColumn,
@@ -50,7 +50,7 @@ pub(crate) fn first_line(bytes: &[u8]) -> (&[u8], usize)
     }
 }
 
-/// What a line is, where it may stand behind a heading of a comment paragraph.
+/// What a line is, where it may come after a heading of a comment-entry.
 pub(crate) fn line_kind(in_paragraph: bool, line: &[u8]) -> LineKind
     ensures { result ≡ line_kind in_paragraph line.now }
 {
@@ -64,7 +64,7 @@ pub(crate) fn line_kind(in_paragraph: bool, line: &[u8]) -> LineKind
     }
 }
 
-/// Whether a comment paragraph goes on behind a line.
+/// Whether a comment-entry goes on after a line.
 pub(crate) fn paragraph_behind(in_paragraph: bool, kind: LineKind) -> bool
     ensures { result ≡ paragraph_behind in_paragraph kind }
 {
@@ -104,7 +104,7 @@ fn is_area_a_blank(text: &[u8]) -> bool
     text.iter().take(AREA_A).all(|byte| *byte == b' ')
 }
 
-/// Whether a text begins, in area A, with a word that heads a comment paragraph, and its next token
+/// Whether a text begins, in area A, with a word that heads a comment-entry, and its next token
 /// is a period.
 fn begins_paragraph(text: &[u8]) -> bool
     ensures { result ≡ begins_paragraph text.now }
@@ -113,7 +113,7 @@ fn begins_paragraph(text: &[u8]) -> bool
     text.len() - rest.len() < AREA_A && is_comment_heading(rest)
 }
 
-/// Whether a rest begins with a word that heads a comment paragraph, and the next token is a period.
+/// Whether a rest begins with a word that heads a comment-entry, and the next token is a period.
 fn is_comment_heading(rest: &[u8]) -> bool
     ensures { result ≡ is_comment_heading rest.now }
 {
@@ -121,7 +121,7 @@ fn is_comment_heading(rest: &[u8]) -> bool
     heads_comment(word) && period_next(behind_spacing(&rest[word.len()..]))
 }
 
-/// What is left behind spaces, and commas and semicolons that are like one.
+/// What is left after spaces, and commas and semicolons that are like one.
 fn behind_spacing(bytes: &[u8]) -> &[u8]
     ensures behind { result.now ≡ behind_spacing bytes.now }
     ensures within { length result.now ≤ length bytes.now }

@@ -32,7 +32,7 @@ pub struct Token {
     pub kind: TokenKind,
     /// The place of its first byte in the source, from 0.
     pub start: u32,
-    /// The place behind its last byte.
+    /// The place after its last byte.
     pub past: u32,
     /// Its line, from 1.
     pub line: u32,

@@ -45,7 +45,7 @@ pub(crate) fn is_picture_word(word: &[u8]) -> bool
     word == b"PIC".as_slice() || word == b"PICTURE".as_slice()
 }
 
-/// Whether a word heads a comment paragraph.
+/// Whether a word heads a comment-entry.
 pub(crate) fn heads_comment(word: &[u8]) -> bool
     ensures { result ≡ heads_comment word.now }
 {

@@ -98,7 +98,7 @@ fn take_simple(alloc: Global, tokens: &[Token]) -> Result<(Simple, &[Token]), St
     take_compared(alloc, left, denied, skip_word(rest, b"NOT"))
 }
 
-/// A further simple condition, behind a word.
+/// A further simple condition, after a word.
 #[tactic(auto, unfolding(crate::specs::PartReaders::joined_part))]
 fn take_joined_part<'a>(
     alloc: Global,
@@ -112,7 +112,7 @@ fn take_joined_part<'a>(
     take_simple(alloc, rest)
 }
 
-/// The first simple condition, and those behind further words.
+/// The first simple condition, and those after further words.
 #[tactic(auto, unfolding(crate::specs::PartReaders::joined))]
 fn take_joined<'a>(
     alloc: Global,

@@ -170,7 +170,7 @@ fn next_is_constant(tokens: &[Token]) -> bool
     }
 }
 
-/// The tokens behind a word that may be left out.
+/// The tokens after a word that may be left out.
 fn behind_word<'a>(word: &[u8], tokens: &'a [Token]) -> &'a [Token]
     ensures { result.now ≡ behind_word word.now tokens.now }
 {

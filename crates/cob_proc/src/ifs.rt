@@ -38,8 +38,8 @@ impl OpenIfs {
         is_word(token, b"IF") && MAX_IFS <= self.ifs.len()
     }
 
-    /// Goes past a token: a period ends all, an ELSE belongs to the nearest without one, and an IF is
-    /// opened.
+    /// Goes past a token: a period ends all, an ELSE belongs to the nearest without one, and an IF
+    /// is opened.
     pub(crate) fn pass(&mut self, token: &Token) -> Result<(), AllocError>
         ensures { OnOk result (self.new ≡ open_behind self.old token.now) }
     {

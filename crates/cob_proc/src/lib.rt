@@ -1,9 +1,10 @@
-//! The Procedure Division of a program: what it is made of, its forms and its faults, and reading it.
+//! The Procedure Division of a program: what it is made of, its forms and its faults, and reading
+//! it.
 //!
-//! `specs/Forms.antt` has the forms of the statements and conditions as lists of parts, by which `reading`
-//! of cob_forms says where another word or sign is wanted. `specs/Spelled.antt` says which tokens spell
-//! which trees, and `specs/Faults.antt` which fault is the first. `procedure_division` answers the trees
-//! that the tokens spell, or the first fault.
+//! `specs/Forms.antt` has the forms of the statements and conditions as lists of parts, by which
+//! `reading` of cob_forms says where another word or sign is wanted. `specs/Spelled.antt` says
+//! which tokens spell which trees, and `specs/Faults.antt` which fault is the first.
+//! `procedure_division` answers the trees that the tokens spell, or the first fault.
 //!
 //! ```rust
 //! let tokens = lex(alloc, b"       PROCEDURE DIVISION.\n       MAIN.\n           GO STOP.\n")?;
@@ -12,12 +13,14 @@
 //! let refused = procedure_division(alloc, tokens.as_slice());
 //! ```
 //!
-//! Each form has a function that takes it from the front of some tokens. What it takes is said by a reader
-//! of `specs/PartReaders.antt`, `StatementReaders.antt` or `DivisionReaders.antt`; that these readers stop
-//! where the forms say, and read what is spelled and nothing else, is proved of the definitions.
+//! Each form has a function that takes it from the beginning of some tokens. What it takes is said
+//! by a reader of `specs/PartReaders.antt`, `StatementReaders.antt` or `DivisionReaders.antt`; that
+//! these readers stop where the forms say, and read what is spelled and nothing else, is proved of
+//! the definitions.
 //!
-//! A statement is read by calls as deep as IFs nest. `limits` finds the first token with which a limit is
-//! passed, and no more than the tokens up to it are read: those behind it tell no earlier fault.
+//! A statement is read by calls as deep as IFs nest. `limits` finds the first token with which a
+//! limit is passed, and no more than the tokens up to it are read: those after it tell no earlier
+//! fault.
 #![tactic(auto)]
 
 mod conditions;

@@ -112,8 +112,8 @@ fn take_division(
     Ok((Procedure { paragraphs }, rest))
 }
 
-/// The division that all of the tokens are, or how many are left where another is wanted. No IFs nest deeper
-/// than there are tokens, so the depth never runs out.
+/// The division that all of the tokens are, or how many are left where another is wanted. No IFs
+/// nest deeper than there are tokens, so the depth never runs out.
 pub(crate) fn read_trees(alloc: Global, tokens: &[Token]) -> Result<Procedure, Stop>
     ensures { Gives procedure_trees result (read_procedure tokens.now) }
 {

@@ -54,7 +54,8 @@ fn count_unread(alloc: Global, tokens: &[Token]) -> Result<usize, AllocError>
     }
 }
 
-/// The first fault where a limit is passed at a token with others behind it: those tell no earlier one.
+/// The first fault where a limit is passed at a token with others after it: those tell no earlier
+/// one.
 #[tactic(auto, using(crate::proofs::CutFault::stopped_fault))]
 fn first_fault_up_to(alloc: Global, tokens: &[Token], at: usize) -> Result<SourceFault, AllocError>
     requires limit { limit_place tokens.now ≡ Some at }
@@ -91,8 +92,8 @@ fn read_all(alloc: Global, tokens: &[Token]) -> Result<Procedure, SourceError>
     }
 }
 
-/// Reads a Procedure Division, from the word PROCEDURE to the end of the source. Where a limit is passed
-/// it looks no further than that token, so it follows no IF deeper than they may nest.
+/// Reads a Procedure Division, from the word PROCEDURE to the end of the source. Where a limit is
+/// passed it looks no further than that token, so it follows no IF deeper than they may nest.
 pub fn procedure_division(alloc: Global, tokens: &[Token]) -> Result<Procedure, SourceError>
     // The tokens stand in order, as those of a source do.
     requires { AreInOrder tokens.now }

@@ -33,7 +33,7 @@ fn take_mark(tokens: &[Token]) -> Result<(Indicator, &[Token]), Stop>
     Ok((Indicator::Egi, rest))
 }
 
-/// What stands behind WITH.
+/// What comes after WITH.
 #[tactic(auto, unfolding(crate::specs::StatementReaders::with_what))]
 fn take_with_what(tokens: &[Token]) -> Result<(Indicator, &[Token]), Stop>
     ensures gives { Gives (λ x. (x.0, x.1.now)) result (with_what tokens.now) }
@@ -59,7 +59,7 @@ fn take_indicator(tokens: &[Token]) -> Result<(Indicator, &[Token]), Stop>
     take_mark(tokens)
 }
 
-/// The tokens behind LINE or LINES, which may be left out.
+/// The tokens after LINE or LINES, which may be left out.
 #[tactic(auto, unfolding(crate::specs::StatementReaders::perhaps_lines))]
 fn skip_lines(count: Lines, tokens: &[Token]) -> (Lines, &[Token])
     ensures gives { perhaps_lines count tokens.now ≡ Ok (result.0, result.1.now) }

@@ -93,7 +93,7 @@ fn take_optional_through(tokens: &[Token]) -> Result<(Option<Name>, &[Token]), S
     Ok((None, tokens))
 }
 
-/// TIMES, behind how often.
+/// TIMES, after how often.
 #[tactic(auto, unfolding(crate::specs::StatementReaders::times))]
 fn take_times(count: Addend, tokens: &[Token]) -> Result<(Repetition, &[Token]), Stop>
     ensures gives { Gives (λ x. (x.0, x.1.now)) result (times count tokens.now) }

@@ -34,8 +34,8 @@ pub enum Statement {
         addend: Addend,
         target: Identifier,
     },
-    /// IF condition, and then what is done where it holds and where it does not. The position is that
-    /// of IF.
+    /// IF condition, and then what is done where it holds and where it does not. The position is
+    /// that of IF.
     If {
         position: Position,
         condition: Condition,
@@ -95,7 +95,8 @@ pub struct Identifier {
     pub subscript: Option<Subscript>,
 }
 
-/// A subscript: a number, or the item that holds it. The position is that of its opening parenthesis.
+/// A subscript: a number, or the item that holds it. The position is that of its opening
+/// parenthesis.
 #[derive(Debug, Drop)]
 pub enum Subscript {
     Number { position: Position, number: Number },

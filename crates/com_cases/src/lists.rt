@@ -21,7 +21,7 @@ pub fn answer(
     Ok(Some(answer))
 }
 
-/// The numbers that are left, one pushed behind the other.
+/// The numbers that are left, one pushed after the other.
 fn rows_of(alloc: Global, words: &mut Words<'_>) -> Result<Rows<u64>, AllocError> {
     let mut rows = Rows::new(alloc);
     for _number in 0..words.len() {

@@ -52,7 +52,7 @@ pub IsText-opening_output : (n : ℕ) → IsText (opening_output n)
 IsText-opening_output zero = refl
 IsText-opening_output (suc n) = IsText-append (opening_output n) _ (IsText-opening_output n) refl
 
--- one more ERROR KEY in the spaces behind an opening area makes the next opening area
+-- one more ERROR KEY in the spaces after an opening area makes the next opening area
 pub opening_more : (n : ℕ) → n < 8 → set (opening_output n ++ spaces (104 - 13 * n)) (10 + 13 * n) 48 ≡ opening_output (n + 1) ++ spaces (104 - 13 * (n + 1))
 opening_more n lt =
     let rest = 104 - 13 * (n + 1) in

@@ -18,7 +18,7 @@ first_field : (a : List ℕ) (path : List (List ℕ)) (below : List ℕ)
     → fields_of (a ∷ path) ++ below ≡ field_of a ++ (fields_of path ++ below)
 first_field a path below = append_assoc (field_of a) (fields_of path) below
 
--- no name's field is the front of spaces
+-- no name's field is a prefix of spaces
 name_no_spaces : (name x : List ℕ) (n : ℕ) → IsName name → field_of name ++ x ≡ spaces n → ⊥
 name_no_spaces [] x n h e = false≢true h
 name_no_spaces (b ∷ bs) x zero h e = cc
@@ -40,7 +40,7 @@ same_path (a ∷ cs) (b ∷ bs) m n p q e =
     let rest = same_path cs bs m n (All-tail IsName a cs p) (All-tail IsName b bs q) parts.1 in
     rw (parts.0, rest) refl
 
--- where characters are left below the front of a path, a name's field is next
+-- where characters are left below the beginning of a path, a name's field is next
 next_name : (path other : List (List ℕ)) (below : List ℕ) (n : ℕ) → All IsName path → All IsName other
     → fields_of path ++ below ≡ fields_of other ++ spaces n → list_any is_character below ≡ true
     → ((name : List ℕ) → IsName name → take 12 below ≡ field_of name → ⊥) → ⊥
@@ -68,7 +68,7 @@ first_name area (a ∷ cs) d none =
     let h = All-head IsName a cs d.names in
     none a h (ap (take 12) (d.fields ∙ first_field a cs _) ∙ take_at (field_of a) _ 12 (length-field_of a h))
 
--- an area with characters below the front of a path, and no name's field next, names no path
+-- an area with characters below the beginning of a path, and no name's field next, names no path
 pub no_path : (area below : List ℕ) (path other : List (List ℕ)) → All IsName path → fields_of path ++ below ≡ take 48 area
     → list_any is_character below ≡ true → ((name : List ℕ) → IsName name → take 12 below ≡ field_of name → ⊥)
     → Designates area other → ⊥

@@ -19,7 +19,7 @@ pub enum Designation {
     Malformed,
 }
 
-/// The path that the name fields at the front of an area hold: None exactly where they hold none.
+/// The path that the name fields at the beginning of an area hold: None exactly if they hold none.
 pub(crate) fn path_in(area: &[u8; IN_AREA_LENGTH]) -> Option<NamePath>
     ensures { (path : List (List ℕ)) → (result ≡ Some path) ↔ Designates area.now path }
 {

@@ -108,7 +108,7 @@ impl InArea {
         InArea { bytes }
     }
 
-    /// The area with these characters: None exactly where there are not 87 bytes, or one is
+    /// The area with these characters: None exactly if there are not 87 bytes, or one is
     /// outside 20 to 7E hexadecimal.
     pub fn read(bytes: &[u8]) -> Option<InArea>
         ensures some { IsSome result ↔ IsInputArea bytes.now }
@@ -138,7 +138,7 @@ impl InArea {
         &self.bytes[start..start + field.width()]
     }
 
-    /// The path that the four name fields designate. They are malformed exactly where SYMBOLIC
+    /// The path that the four name fields designate. They are malformed exactly if SYMBOLIC
     /// QUEUE holds no name, a level below it holds neither spaces nor a name, or a name follows a
     /// level of spaces.
     pub fn designation(&self) -> Designation

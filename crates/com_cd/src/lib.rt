@@ -11,12 +11,12 @@
 //! assert!(rt; sending.count() == Some(1));
 //! ```
 //!
-//! - [`InArea`] is the 87 characters of an input CD, [`OutArea`] the 23 to 114 characters of an output CD.
-//!   `read` answers exactly the texts of that length, `get` gives the characters at a field's place, and
-//!   `set` changes that field alone.
-//! - `InArea::designation` is the path that the four names designate, and is malformed exactly where they
-//!   designate none.
-//! - `OutArea::count` is the number of DESTINATION COUNT, exactly where it is valid.
+//! - [`InArea`] is the 87 characters of an input CD, [`OutArea`] the 23 to 114 characters of an
+//!   output CD. `read` answers exactly the texts of that length, `get` gives the characters at a
+//!   field's place, and `set` changes that field alone.
+//! - `InArea::designation` is the path that the four names designate, and is malformed exactly if
+//!   they designate none.
+//! - `OutArea::count` is the number of DESTINATION COUNT, exactly if it is valid.
 //! - `Status::bytes` is the two characters of a status key.
 #![tactic(auto)]
 

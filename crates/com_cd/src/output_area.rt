@@ -106,7 +106,7 @@ impl OutArea {
         OutArea { bytes, occurrences }
     }
 
-    /// The area with these characters: None exactly where there are not 10 bytes and 13 for each of
+    /// The area with these characters: None exactly if there are not 10 bytes and 13 for each of
     /// 1 to 8 occurrences, or one is outside 20 to 7E hexadecimal.
     pub fn read(bytes: &[u8]) -> Option<OutArea>
         ensures some { IsSome result ↔ IsOutputArea bytes.now }
@@ -162,7 +162,7 @@ impl OutArea {
         write_part(&mut self.bytes, field.start(), value);
     }
 
-    /// The number of DESTINATION COUNT: None exactly where it is not four digits, or its number is
+    /// The number of DESTINATION COUNT: None exactly if it is not four digits, or its number is
     /// 0 or above the occurrences of the area.
     pub fn count(&self) -> Option<u32>
         ensures count { result ≡ destination_count self.now }
@@ -178,7 +178,7 @@ impl OutArea {
     }
 }
 
-/// How many occurrences an area of so many characters has: None exactly where no area is so long.
+/// How many occurrences an area of so many characters has: None exactly if no area is so long.
 fn occurrences_in(characters: usize) -> Option<u32>
     ensures found { IfSome result (λ n.
         (1 ≤ n) × (n ≤ MAX_OCCURRENCES) × (characters ≡ 10 + 13 * n)) }

@@ -47,7 +47,7 @@ use Rattle.com_journal.proofs.Spelled.{spelled, spelled-append}
 use Rattle.com_journal.proofs.FieldLaws.{IsEnd, Reads, no_space, word-complete, word-sound, IsWithin, reads_number, reads_chunk, IsTextOf, reads_text, reads_in_area, reads_out_area}
 use Rattle.com_journal.proofs.WordLaws.{branch, chooses_kind, chooses_wait, chooses_switch, chooses_input, chooses_end, chooses_stop, chooses_frame}
 
--- a call of a sort, whose fields are a verb and what was read behind it
+-- a call of a sort, whose fields are a verb and what was read after it
 pub record IsRead (Sort : Call → Type 0) (verb bytes : List ℕ) (call : Call) (rest : List ℕ) : Type 0 where
   pub sort : Sort call
   pub ranges : IsWellFormed call
@@ -598,7 +598,7 @@ finish-complete : (reason : EndReason) (rest : List ℕ) → IsEndReason reason 
 unfolding finish_at
 finish-complete reason rest h end = rw (reason-complete reason rest h end) refl
 
--- what is read behind a unit's verb, and behind a terminal's
+-- what is read after a unit's verb, and after a terminal's
 pub unit-sound : (verb bytes : List ℕ) (call : Call) (rest : List ℕ) → unit_verb verb bytes ≡ Some (call, rest) → IsRead IsUnitCall verb bytes call rest
 unfolding unit_verb
 unit-sound verb bytes call rest h =
@@ -619,7 +619,7 @@ terminal-sound verb bytes call rest h =
     branch P verb (codes "HELD") _ _ (Some (call, rest)) h1 (λ e. made IsTerminalCall (codes "HELD") bytes Held bytes call rest e record { sort = λ none. none; ranges = tt; whole = refl }) (λ h2.
     branch P verb (codes "END") _ _ (Some (call, rest)) h2 (λ e. finish-sound bytes call rest e) (λ e. absurd (none-some (call, rest) e))))
 
--- the fields of a call are its verb, and what is read as the call behind it
+-- the fields of a call are its verb, and what is read as the call after it
 pub record IsReadBack (read : List ℕ → List ℕ → Option (Call × List ℕ)) (call : Call) (rest : List ℕ) : Type 0 where
   pub verb : List ℕ
   pub left : List ℕ

@@ -34,7 +34,7 @@ no_other_byte : (n byte k : ℕ) → n < 2 ^ 64 → ¬ (IsInRange 48 57 byte) �
 no_other_byte n byte k fits other lt =
     ne_eqb (get_or (decimal n) k 0) byte (not_in_digits own_digits (decimal n) byte (digits_decimal own_digits n fits) other k lt)
 
--- the first colon stands behind the count
+-- the first colon comes after the count
 place_of_colon : (count : ℕ) (rest : List ℕ) → count ≤ 999999 → position_or_len is_colon (decimal count ++ 58 ∷ rest) ≡ length (decimal count)
 place_of_colon count rest few =
     let digits = decimal count in
@@ -45,7 +45,7 @@ place_of_colon count rest few =
     let here = ap is_colon (get_or_at digits 58 rest 0 (length digits) refl) in
     position_or_len_is is_colon whole (length digits) 0 (omega arith) before (λ _. here)
 
--- behind the first colon of a counted field stands its content
+-- after the first colon of a counted field stands its content
 after_colon : (count : ℕ) (rest : List ℕ) → count ≤ 999999 → after_first is_colon (decimal count ++ 58 ∷ rest) ≡ rest
 after_colon count rest few = rw (place_of_colon count rest few) (drop-append-add (decimal count) (58 ∷ rest) 1)
 
@@ -59,7 +59,7 @@ behind-Some front bytes rest h =
     let p = cond_some (starts_with nat_eq bytes front) (drop (length front) bytes) rest h in
     rw (← p.1) ((starts_is Decides-eqb bytes front _ refl).0 p.0)
 
--- a counted field at the front is read as its content and what stands behind it, and nothing else is
+-- a counted field at the front is read as its content and what comes after it, and nothing else is
 pub split_counted-front : (bytes content rest : List ℕ) → IsCountable content → bytes ≡ counted_field content ++ rest → split_counted bytes ≡ Some (content, rest)
 unfolding split_counted
 split_counted-front bytes content rest few e =
@@ -88,7 +88,7 @@ front-split_counted bytes content rest h =
       behind-Some (counted_field found) bytes after e ∙ ap (λ (p : List ℕ × List ℕ). counted_field p.0 ++ p.1) parts,
     )
 
--- what stands at the front of the bytes is a counted field
+-- what stands at the beginning of the bytes is a counted field
 pub split_counted-StandsAt : (bytes : List ℕ) (from past : ℕ) → StandsAt bytes from past → split_counted bytes ≡ Some (slice_range bytes from past, drop past bytes)
 split_counted-StandsAt bytes from past h =
     split_counted-front bytes (slice_range bytes from past) (drop past bytes) h.countable

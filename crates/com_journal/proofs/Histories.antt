@@ -25,7 +25,7 @@ use Rattle.com_journal.proofs.FirstLines.{one_first_line, lines-first}
 abbrev pub ended_line : Entry → List ℕ
 ended_line entry = line_spelled entry ++ 10 ∷ []
 
--- one more line behind others
+-- one more line after others
 pub line_written : (start out : List ℕ) (entries : List Entry) (i : ℕ) (entry d : Entry) → i < length entries → entry ≡ get_or entries i d → out ≡ start ++ flat_map ended_line (take i entries)
     → with_entry out entry ++ 10 ∷ [] ≡ start ++ flat_map ended_line (take (i + 1) entries)
 line_written start out entries i entry d within is so_far =

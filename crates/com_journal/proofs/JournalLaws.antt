@@ -45,7 +45,7 @@ one_first bytes line rest text more false h e k = absurd (not_ended text line re
 one_last : (bytes text more last left : List ℕ) → IsFirstLine bytes text false more → IsFirstLine bytes last true left → ⊥
 one_last bytes text more last left h k = not_ended text last left h.0 (sym h.1 ∙ k.1)
 
--- lines one behind another
+-- lines one after another
 pub ended-append : (a b : List (List ℕ)) → ended (a ++ b) ≡ ended a ++ ended b
 ended-append [] b = refl
 ended-append (line ∷ a) b =
@@ -67,7 +67,7 @@ have_texts (entry ∷ entries) [] h = absurd h
 pub all_have_texts : (entries : List Entry) (lines : List (List ℕ)) → AreLines entries lines → All HasText entries
 all_have_texts entries lines h = All-from_recursion HasText entries (have_texts entries lines h)
 
--- nothing goes on behind these bytes with a line of an entry
+-- nothing goes on after these bytes with a line of an entry
 abbrev Stops : List ℕ → Type 0
 Stops rest = (entry : Entry) (line more : List ℕ) → IsLine entry line → rest ≡ line ++ 10 ∷ more → ⊥
 
@@ -106,7 +106,7 @@ no_end (byte ∷ line) more e = cc
 no_bytes : Stops []
 no_bytes entry line more h e = no_end line more e
 
--- a line that is refused behind the header is none of an entry
+-- a line that is refused after the header is none of an entry
 refused_stops : (kind : JournalKind) (number : ℕ) (rest : List ℕ) → 2 ≤ number → IsRefusedLine kind number rest → Stops rest
 refused_stops BadHeader number rest high h = λ entry line more is e. absurd (omega (arith, h.0))
 refused_stops NoLineEnd number rest high h = λ entry line more is e. one_last rest h.0 h.1 line more h.2 (unbroken_line entry line is, e)

@@ -80,7 +80,7 @@ behind-sound (party.Terminal name) verb bytes call rest h valid =
     let found = terminal-sound verb bytes call rest h in
     ((valid, found.sort), found.ranges, found.whole)
 
--- what is read as a call at the front of a line
+-- what is read as a call at the beginning of a line
 record IsCallRead (line : List ℕ) (who : Party) (call : Call) (rest : List ℕ) : Type 0 where
   caller : IsCallOf who call
   ranges : IsWellFormed call
@@ -220,7 +220,7 @@ written_behind bytes call entry is =
     ∙ (ap (λ xs. bytes ++ sort ∷ xs) (spelled-rest fields (spelled last []))
     ∙ sym (with_entry-line bytes entry))))
 
--- why a terminal ends, behind a space
+-- why a terminal ends, after a space
 pub end_spelled : (reason : EndReason) → spelled (end_fields reason) [] ≡ 32 ∷ spaced (end_fields reason)
 end_spelled finish.End = refl
 end_spelled finish.Fault = refl

@@ -38,7 +38,7 @@ same_calls a b bytes h k =
     let lines : h.0 ≡ k.0 = same_tail (sym h.1 ∙ k.1) in
     same_texts a b k.0 (subst (AreCalls a) lines h.2) k.2
 
--- each line of a script behind its header is a call's text
+-- each line of a script after its header is a call's text
 no_other : (calls : List (Party × Call)) (front : List (List ℕ)) (line : List ℕ) (behind : List (List ℕ)) → AreCalls calls (front ++ line ∷ behind) → ((party : Party) (call : Call) → IsCallText party call line → ⊥) → ⊥
 no_other [] [] line behind h none = h
 no_other (call ∷ calls) [] line behind h none = none call.0 call.1 h.0

@@ -7,7 +7,7 @@ use Rattle.com_journal.specs.declared.line.Unread.TheVariants as unread
 use Rattle.com_journal.specs.Outcomes.{Fails}
 use Rattle.com_journal.specs.Reading.{text_at, segments_at}
 
--- segments, and behind them what was read
+-- segments, and after them what was read
 abbrev pub with_front : List (List ℕ) → Option (List (List ℕ) × List ℕ) → Option (List (List ℕ) × List ℕ)
 with_front segments found =
     option_map (λ (tail : List (List ℕ) × List ℕ). (segments ++ tail.0, tail.1)) found
@@ -39,7 +39,7 @@ pub none_read : (n : ℕ) (bytes : List ℕ) (segments : List (List ℕ)) → te
 unfolding segments_at
 none_read n bytes segments h = rw h refl
 
--- behind the last nothing more is read
+-- after the last nothing more is read
 pub all_read : (bytes : List ℕ) (segments : List (List ℕ)) → with_front segments (segments_at zero bytes) ≡ Some (segments, bytes)
 unfolding segments_at
 all_read bytes segments = ap (λ all. Some (all, bytes)) (append-nil segments)

@@ -1,4 +1,4 @@
--- Fields one behind another, each behind a space.
+-- Fields one after another, each after a space.
 use Rattle.std.proofs.Common.{◌≡◌, ℕ, ◌+◌, ◌<◌, List, [], ◌∷◌, ◌++◌, length, map, get_or, take, refl, sym, ap, ◌∙◌, append_assoc}
 use Rattle.std.proofs.lemmas.List.{append-nil, map-append, take_more}
 use Rattle.com_journal.specs.Lines.{spaced}
@@ -13,7 +13,7 @@ pub spelled-append : (a b : List (List ℕ)) (rest : List ℕ) → spelled (a ++
 spelled-append [] b rest = refl
 spelled-append (field ∷ a) b rest = ap (λ xs. 32 ∷ (field ++ xs)) (spelled-append a b rest)
 
--- the bytes behind fields stand behind them
+-- the bytes after fields come after them
 pub spelled-rest : (fields : List (List ℕ)) (rest : List ℕ) → spelled fields [] ++ rest ≡ spelled fields rest
 spelled-rest [] rest = refl
 spelled-rest (field ∷ fields) rest =
@@ -34,7 +34,7 @@ pub written-append : (bytes : List ℕ) (a b : List (List ℕ)) → written byte
 written-append bytes [] b = refl
 written-append bytes (field ∷ a) b = written-append (bytes ++ 32 ∷ field) a b
 
--- one more field behind those so far
+-- one more field after those so far
 pub written_more : {A : Type 0} (bytes : List ℕ) (field : A → List ℕ) (xs : List A) (i : ℕ) (x d : A) → i < length xs → x ≡ get_or xs i d
     → written bytes (map field (take (i + 1) xs)) ≡ written bytes (map field (take i xs)) ++ 32 ∷ field x
 written_more bytes field xs i x d within is =

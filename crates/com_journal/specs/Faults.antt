@@ -23,7 +23,7 @@ IsFirstLine bytes line true rest = IsUnbroken line × (bytes ≡ line ++ 10 ∷ 
 IsFirstLine bytes line false rest =
     IsUnbroken line × (bytes ≡ line) × (1 ≤ length line) × (rest ≡ [])
 
--- these lines are the front of a journal: its header, and then lines of entries
+-- these lines are the beginning of a journal: its header, and then lines of entries
 abbrev pub AreFront : List (List ℕ) → Type 0
 AreFront [] = Unit {0}
 AreFront (first ∷ lines) =
@@ -51,7 +51,7 @@ pub record IsJournalFault (bytes : List ℕ) (fault : JournalFault) : Type 0 whe
   pub number : fault.line ≡ length front + 1
   pub refused : IsRefusedLine fault.kind fault.line rest
 
--- behind the header and the texts of calls stands a line that is none
+-- after the header and the texts of calls stands a line that is none
 pub record IsBadCall (bytes : List ℕ) (number : ℕ) : Type 0 where
   pub front : List (List ℕ)
   pub calls : List (Party × Call)

@@ -22,7 +22,7 @@ pub record IsRefusedAt (number : ℕ) (bytes : List ℕ) (fault : JournalFault) 
   pub at : fault.line ≡ number
   pub refused : IsRefusedLine fault.kind fault.line bytes
 
--- the line of this number, behind the header, is no entry's, or lacks its line feed
+-- the line of this number, after the header, is no entry's, or lacks its line feed
 abbrev pub IsNoEntryFor : JournalKind → List ℕ → Bool → Type 0
 IsNoEntryFor BadHeader line is_ended = ⊥
 IsNoEntryFor NoLineEnd line is_ended = is_ended ≡ false
@@ -33,7 +33,7 @@ pub record IsNoEntry (number : ℕ) (line : List ℕ) (is_ended : Bool) (fault :
   pub at : fault.line ≡ number
   pub refused : IsNoEntryFor fault.kind line is_ended
 
--- behind the header, the bytes are these lines of entries, and what is left
+-- after the header, the bytes are these lines of entries, and what is left
 pub record HasRead (bytes : List ℕ) (entries : List Entry) (number : ℕ) (rest : List ℕ) : Type 0 where
   pub texts : List (List ℕ)
   pub are_lines : AreLines entries texts
@@ -55,7 +55,7 @@ pub record IsNoCall (number : ℕ) (line : List ℕ) (fault : JournalFault) : Ty
   pub kind : fault.kind ≡ BadLine
   pub none : (party : Party) (call : Call) → IsCallText party call line → ⊥
 
--- behind the header, the lines are these calls, and those that are left
+-- after the header, the lines are these calls, and those that are left
 pub record HasReadCalls (bytes : List ℕ) (calls : List (Party × Call)) (number : ℕ) (rest : List ℕ) : Type 0 where
   pub texts : List (List ℕ)
   pub are_calls : AreCalls calls texts

@@ -1,4 +1,4 @@
--- What a reader answers, and how one reader goes on behind another.
+-- What a reader answers, and how one reader goes on after another.
 use Rattle.std.specs.Prelude.{◌≡◌, Option, Some, None, Result, Ok, Err, option_and_then}
 use Rattle.com_journal.specs.declared.line.Unread.{Unread}
 use Rattle.com_journal.specs.declared.line.Unread.TheVariants as unread
@@ -12,7 +12,7 @@ abbrev pub Fails : {Y : Type 0} → Unread → Option Y → Type 0
 Fails unread.Refused read = read ≡ None
 Fails unread.Memory read = Unit {0}
 
--- want of memory, and nothing else
+-- out of memory, and nothing else
 abbrev pub IsOutOfMemory : Unread → Type 0
 IsOutOfMemory unread.Refused = ⊥
 IsOutOfMemory unread.Memory = Unit {0}

@@ -37,7 +37,7 @@ behind front bytes =
 abbrev pub is_space : ℕ → Bool
 is_space byte = byte == 32
 
--- Each of these reads a field behind a space, and gives what it says and what is left behind it.
+-- Each of these reads a field after a space, and gives what it says and what is left after it.
 
 -- a word: what stands before the next space or the end
 unfoldable pub word_at : List ℕ → Option (List ℕ × List ℕ)
@@ -71,7 +71,7 @@ chunk_at n bytes = do
   field ← behind (codes " ") bytes
   if nat_lt (length field) n then None else Some (take n field, drop n field)
 
--- the content of the counted field at the front, and what stands behind it
+-- the content of the counted field at the front, and what comes after it
 unfoldable pub split_counted : List ℕ → Option (List ℕ × List ℕ)
 split_counted bytes =
     let count = number (take (position_or_len is_colon bytes) bytes) in
@@ -115,7 +115,7 @@ out_area_at bytes = do
   found ← counted_at bytes
   if is_output_area found.0 then Some found else None
 
--- The parts of a call, and each call behind its verb.
+-- The parts of a call, and each call after its verb.
 
 unfoldable pub receive_at : List ℕ → Option (Call × List ℕ)
 receive_at bytes = do
@@ -271,7 +271,7 @@ party_of sort name =
     if sort == 85 then Some (party.Unit name)
     else if sort == 84 then Some (party.Terminal name) else None
 
--- the party at the front of a line, where no space stands before it
+-- the party at the beginning of a line, where no space stands before it
 unfoldable pub party_at : List ℕ → Option (Party × List ℕ)
 party_at bytes = do
   sort ← first_at bytes
@@ -299,7 +299,7 @@ unfoldable pub verb_behind : Party → List ℕ → List ℕ → Option (Call ×
 verb_behind (party.Unit name) verb bytes = unit_verb verb bytes
 verb_behind (party.Terminal name) verb bytes = terminal_verb verb bytes
 
--- a party and its call, at the front of a line
+-- a party and its call, at the beginning of a line
 unfoldable pub call_at : List ℕ → Option ((Party × Call) × List ℕ)
 call_at line = do
   party ← party_at line

@@ -10,7 +10,7 @@ use Rattle.com_events.specs.declared.reply.Reply.TheVariants.{Given}
 use Rattle.com_events.specs.declared.entry.Entry.{Entry}
 use Rattle.com_journal.specs.Lines.{call_fields, reply_fields}
 
--- bytes, and fields behind them, each behind a space
+-- bytes, and fields after them, each after a space
 abbrev pub written : List ℕ → List (List ℕ) → List ℕ
 written bytes [] = bytes
 written bytes (field ∷ fields) = written (bytes ++ 32 ∷ field) fields
@@ -41,7 +41,7 @@ abbrev pub party_name : Party → List ℕ
 party_name (party.Unit name) = name
 party_name (party.Terminal name) = name
 
--- bytes, and the line of an entry behind them
+-- bytes, and the line of an entry after them
 abbrev pub with_entry : List ℕ → Entry → List ℕ
 with_entry bytes entry =
     written (written (written (bytes ++ party_sort entry.party ∷ []) (party_name entry.party ∷ []))

@@ -14,7 +14,7 @@ use com_msg::{MAX_MESSAGE_LENGTH, MAX_SEGMENT_LENGTH, MAX_SEGMENTS, RawMessage, 
 use com_text::{Rows, Text};
 use std::alloc::{AllocError, Global};
 
-/// An ARRIVE, behind its verb.
+/// An ARRIVE, after its verb.
 #[tactic(auto, unfolding(crate::specs::Reading::arrive_at))]
 pub(crate) fn read_call(alloc: Global, line: &mut Line<'_>) -> Result<Call, Unread>
     ensures { Gives (λ call. (call, line.new)) result (arrive_at line.old) }

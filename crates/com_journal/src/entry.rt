@@ -68,7 +68,7 @@ pub(crate) fn put(out: &mut Rows<u8>, entry: &Entry) -> Result<(), AllocError>
     reply::put(out, &entry.reply)
 }
 
-/// Adds the line of an entry behind the text of its call, without the line's end.
+/// Adds the line of an entry after the text of its call, without the line's end.
 pub(crate) fn put_behind(out: &mut Rows<u8>, call: &[u8], entry: &Entry) -> Result<(), AllocError>
     requires text { HasText entry.now }
     requires call { IsCallText entry.now.party entry.now.call call.now }

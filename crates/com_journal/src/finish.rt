@@ -13,7 +13,7 @@ use com_msg::FrameFault;
 use com_text::Rows;
 use std::alloc::AllocError;
 
-/// An END, behind its verb.
+/// An END, after its verb.
 #[tactic(auto, unfolding(crate::specs::Reading::finish_at))]
 pub(crate) fn read_call(line: &mut Line<'_>) -> Result<Call, Unread>
     ensures { Gives (λ call. (call, line.new)) result (finish_at line.old) }

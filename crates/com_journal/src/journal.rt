@@ -19,7 +19,7 @@ use std::alloc::{AllocError, Global};
 const HEADER: &[u8; 13] = b"MCS-JOURNAL 1";
 
 /// The journal of entries that have a text: a header, and a line for each entry. The only error is
-/// want of memory.
+/// out of memory.
 pub fn write(alloc: Global, entries: &[Entry]) -> Result<Rows<u8>, AllocError>
     requires { All HasText entries.now }
     ensures { IfOk result (IsJournal entries.now) }
@@ -34,8 +34,8 @@ pub fn write(alloc: Global, entries: &[Entry]) -> Result<Rows<u8>, AllocError>
     Ok(out)
 }
 
-/// Adds the line of an entry that has a text, with its line feed, behind the text of its call. Without
-/// memory a front of it may have been added.
+/// Adds the line of an entry that has a text, with its line feed, after the text of its call.
+/// Without memory a prefix of it may have been added.
 pub fn write_entry(call: &[u8], entry: &Entry, into: &mut Rows<u8>) -> Result<(), AllocError>
     requires text { HasText entry.now }
     requires call { IsCallText entry.now.party entry.now.call call.now }
@@ -94,7 +94,7 @@ fn is_header(line: &[u8]) -> bool
     line == HEADER.as_slice()
 }
 
-/// The entries of the lines behind the header.
+/// The entries of the lines after the header.
 fn read_entries(alloc: Global, lines: &mut Lines<'_>) -> Result<Rows<Entry>, JournalError>
     requires { length lines.old < 2 ^ 63 }
     ensures read { IfOk result (λ entries.
@@ -113,7 +113,7 @@ fn read_entries(alloc: Global, lines: &mut Lines<'_>) -> Result<Rows<Entry>, Jou
     Ok(entries)
 }
 
-/// The entry of a line behind the header.
+/// The entry of a line after the header.
 fn entry_in(alloc: Global, line: &TextLine<'_>, number: u64) -> Result<Entry, JournalError>
     requires { 2 ≤ number }
     ensures entry { IfOk result (λ entry. IsLine entry line.now.text.now) }

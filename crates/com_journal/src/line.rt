@@ -67,7 +67,7 @@ impl<'a> Line<'a> {
         Ok(*first)
     }
 
-    /// The word behind a space, up to the next space or the end.
+    /// The word after a space, up to the next space or the end.
     #[tactic(auto, unfolding(crate::specs::Reading::word_at))]
     pub(crate) fn word(&mut self) -> Result<&'a [u8], Unread>
         ensures { Gives (λ word. (word.now, self.new)) result (word_at self.old) }
@@ -93,7 +93,7 @@ impl<'a> Line<'a> {
         }
     }
 
-    /// Passes a hyphen behind a space, if one stands there.
+    /// Passes a hyphen after a space, if one stands there.
     pub(crate) fn skips_hyphen(&mut self) -> bool
         ensures skipped { IsTrue result → behind (codes " -") self.old ≡ Some self.new }
         ensures stays { result ≡ false → (behind (codes " -") self.old ≡ None) }
@@ -108,7 +108,7 @@ impl<'a> Line<'a> {
         }
     }
 
-    /// The number behind a space, written without a leading zero.
+    /// The number after a space, written without a leading zero.
     #[tactic(auto, unfolding(crate::specs::Reading::number_at))]
     pub(crate) fn number(&mut self, least: u64, most: u64) -> Result<u64, Unread>
         requires { most < 10 ^ 18 }
@@ -122,7 +122,7 @@ impl<'a> Line<'a> {
         }
     }
 
-    /// So many bytes behind a space.
+    /// So many bytes after a space.
     #[tactic(auto, unfolding(crate::specs::Reading::chunk_at))]
     pub(crate) fn chunk<const N: usize>(&mut self) -> Result<&'a [u8; N], Unread>
         ensures { Gives (λ chunk. (chunk.now, self.new)) result (chunk_at N self.old) }
@@ -137,7 +137,7 @@ impl<'a> Line<'a> {
         Ok(chunk)
     }
 
-    /// The content of the counted field behind a space.
+    /// The content of the counted field after a space.
     #[tactic(auto, unfolding(crate::specs::Reading::counted_at))]
     pub(crate) fn counted(&mut self) -> Result<&'a [u8], Unread>
         ensures { Gives (λ content. (content.now, self.new)) result (counted_at self.old) }
@@ -152,7 +152,7 @@ impl<'a> Line<'a> {
         Ok(content)
     }
 
-    /// The text of so many characters in the counted field behind a space.
+    /// The text of so many characters in the counted field after a space.
     #[tactic(auto, unfolding(crate::specs::Reading::text_at))]
     pub(crate) fn text(&mut self, alloc: Global, least: usize, most: usize) -> Result<Text, Unread>
         ensures { Gives (λ text. (text, self.new)) result (text_at least most self.old) }
@@ -167,7 +167,7 @@ impl<'a> Line<'a> {
         }
     }
 
-    /// The input area in the counted field behind a space.
+    /// The input area in the counted field after a space.
     #[tactic(auto, unfolding(crate::specs::Reading::in_area_at))]
     pub(crate) fn in_area(&mut self) -> Result<InArea, Unread>
         ensures { Gives (λ area. (area, self.new)) result (in_area_at self.old) }
@@ -178,7 +178,7 @@ impl<'a> Line<'a> {
         }
     }
 
-    /// The output area in the counted field behind a space.
+    /// The output area in the counted field after a space.
     #[tactic(auto, unfolding(crate::specs::Reading::out_area_at))]
     pub(crate) fn out_area(&mut self) -> Result<OutArea, Unread>
         ensures { Gives (λ area. (area, self.new)) result (out_area_at self.old) }
@@ -222,7 +222,7 @@ fn first_space(bytes: &[u8]) -> Option<usize>
     bytes.iter().position(|byte| *byte == b' ')
 }
 
-/// The content of the counted field at the front, and what stands behind it.
+/// The content of the counted field at the front, and what comes after it.
 fn split_counted(bytes: &[u8]) -> Option<(&[u8], &[u8])>
     ensures { option_map (λ found. (found.0.now, found.1.now)) result ≡ split_counted bytes.now }
 {

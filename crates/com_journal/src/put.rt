@@ -6,7 +6,7 @@ ghost use Rattle.com_journal.specs.Writing.{written};
 use com_text::{Rows, put_counted, put_number};
 use std::alloc::AllocError;
 
-/// Adds a word behind a space.
+/// Adds a word after a space.
 pub(crate) fn put_word(out: &mut Rows<u8>, word: &[u8]) -> Result<(), AllocError>
     ensures { OnOk result (out.new ≡ written out.old (word.now ∷ [])) }
 {
@@ -14,7 +14,7 @@ pub(crate) fn put_word(out: &mut Rows<u8>, word: &[u8]) -> Result<(), AllocError
     out.extend_from_slice(word)
 }
 
-/// Adds a number behind a space.
+/// Adds a number after a space.
 pub(crate) fn put_decimal(out: &mut Rows<u8>, n: u64) -> Result<(), AllocError>
     ensures { OnOk result (out.new ≡ written out.old (decimal n ∷ [])) }
 {
@@ -22,7 +22,7 @@ pub(crate) fn put_decimal(out: &mut Rows<u8>, n: u64) -> Result<(), AllocError>
     put_number(out, n)
 }
 
-/// Adds a counted field behind a space.
+/// Adds a counted field after a space.
 pub(crate) fn put_field(out: &mut Rows<u8>, content: &[u8]) -> Result<(), AllocError>
     requires { IsCountable content.now }
     ensures { OnOk result (out.new ≡ written out.old (counted_field content.now ∷ [])) }

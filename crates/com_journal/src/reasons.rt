@@ -10,14 +10,14 @@ use com_events::{EndReason, StopReason};
 use com_text::Rows;
 use std::alloc::AllocError;
 
-/// Adds why a unit stops, behind a space.
+/// Adds why a unit stops, after a space.
 pub fn write_stop(reason: StopReason, into: &mut Rows<u8>) -> Result<(), AllocError>
     ensures { OnOk result (into.new ≡ into.old ++ 32 ∷ stop_word reason) }
 {
     put_word(into, stop_word(reason))
 }
 
-/// Adds why a terminal ends, behind a space. Without memory a front of it may have been added.
+/// Adds why a terminal ends, after a space. If memory runs out, a prefix of it may have been added.
 pub fn write_finish(reason: EndReason, into: &mut Rows<u8>) -> Result<(), AllocError>
     ensures { OnOk result (into.new ≡ into.old ++ 32 ∷ spaced (end_fields reason)) }
 {

@@ -15,7 +15,7 @@ use com_msg::{Kind, MAX_SIZE};
 use com_text::{Rows, Text};
 use std::alloc::{AllocError, Global};
 
-/// A RECEIVE, behind its verb.
+/// A RECEIVE, after its verb.
 #[tactic(auto, unfolding(crate::specs::Reading::receive_at))]
 pub(crate) fn read_call(line: &mut Line<'_>) -> Result<Call, Unread>
     ensures { Gives (λ call. (call, line.new)) result (receive_at line.old) }

@@ -19,7 +19,7 @@ use std::alloc::{AllocError, Global};
 
 const HEADER: &[u8; 12] = b"MCS-SCRIPT 1";
 
-/// The call whose text a line of a script is, without its line feed. None exactly where it is no
+/// The call whose text a line of a script is, without its line feed. None exactly if it is no
 /// call's text.
 pub fn call_line(alloc: Global, bytes: &[u8]) -> Result<Option<(Party, Call)>, AllocError>
     ensures found { IfOk result (λ found.
@@ -34,7 +34,7 @@ pub fn call_line(alloc: Global, bytes: &[u8]) -> Result<Option<(Party, Call)>, A
     }
 }
 
-/// The lines of a script behind its header. None exactly where the first line is not the header.
+/// The lines of a script after its header. None exactly if the first line is not the header.
 pub fn script_lines(bytes: &[u8]) -> Option<Lines<'_>>
     ensures lines { IfSome result
         (λ lines. lines_of bytes.now ≡ script_header ∷ lines_of lines) }
@@ -83,7 +83,7 @@ fn is_header(line: &[u8]) -> bool
     line == HEADER.as_slice()
 }
 
-/// The calls of the lines behind the header.
+/// The calls of the lines after the header.
 fn read_lines(alloc: Global, lines: &mut Lines<'_>) -> Result<Rows<(Party, Call)>, JournalError>
     requires { length lines.old < 2 ^ 63 }
     ensures read { IfOk result (λ calls. AreCalls calls (lines_of lines.old)) }
@@ -101,7 +101,7 @@ fn read_lines(alloc: Global, lines: &mut Lines<'_>) -> Result<Rows<(Party, Call)
     Ok(calls)
 }
 
-/// The call of a line behind the header.
+/// The call of a line after the header.
 fn call_in(alloc: Global, line: &[u8], number: u64) -> Result<(Party, Call), JournalError>
     ensures call { IfOk result (λ call. IsCallText call.0 call.1 line.now) }
     ensures refused { IfErr result (Tells (IsNoCall number line.now)) }

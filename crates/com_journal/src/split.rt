@@ -11,7 +11,7 @@ use std::marker::Model;
 #[derive(Clone, Copy)]
 pub struct TextLine<'a> {
     pub text: &'a [u8],
-    /// Whether a line feed stands behind it.
+    /// Whether a line feed comes after it.
     pub is_ended: bool,
 }
 

@@ -14,7 +14,7 @@ use com_events::{Call, MAX_KEY_LENGTH};
 use com_text::{Rows, Text};
 use std::alloc::{AllocError, Global};
 
-/// An ENABLE (`on`) or DISABLE, behind its verb.
+/// An ENABLE (`on`) or DISABLE, after its verb.
 #[tactic(auto, unfolding(crate::specs::Reading::switch_at))]
 pub(crate) fn read_call(alloc: Global, on: bool, line: &mut Line<'_>) -> Result<Call, Unread>
     ensures { Gives (λ call. (call, line.new)) result (switch_at on line.old) }
@@ -35,7 +35,7 @@ fn output(alloc: Global, on: bool, line: &mut Line<'_>) -> Result<Call, Unread>
     Ok(Call::SwitchOutput { on, area, key })
 }
 
-/// INPUT or INPUT TERMINAL, behind its word.
+/// INPUT or INPUT TERMINAL, after its word.
 #[tactic(auto, unfolding(crate::specs::Reading::input_at, crate::specs::Reading::switch_input_at))]
 fn input(alloc: Global, on: bool, word: &[u8], line: &mut Line<'_>) -> Result<Call, Unread>
     ensures { Gives (λ call. (call, line.new)) result (input_at on word.now line.old) }

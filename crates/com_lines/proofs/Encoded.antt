@@ -43,7 +43,7 @@ right-end bytes Egi few =
     let a : nat_le 65536 (count_by (is_ending Marks) bytes) ≡ false = lt-leb 65536 _ few in
     rw a refl
 
--- an LF behind an ending byte is right
+-- an LF after an ending byte is right
 right-line_feed : (bytes : List ℕ) → is_ending Marks (last_of bytes) ≡ true → kind_of Marks bytes 10 [] ≡ None
 right-line_feed bytes h = rw h refl
 
@@ -130,7 +130,7 @@ encoded-frames messages m room =
       read.ended,
     )
 
--- one more segment behind others, or the first
+-- one more segment after others, or the first
 joined-push : (segments : List (List ℕ)) (segment : List ℕ) → 1 ≤ length segments → joined (segments ++ segment ∷ []) ≡ joined segments ++ 0x17 ∷ segment
 joined-push [] segment some = absurd (omega (arith, some))
 joined-push (first ∷ []) segment some = refl
@@ -152,7 +152,7 @@ joined-first start items segments i segment d within is so_far none =
 pub all-encodable : (messages : List RawMessage) → All IsWithinLimits messages → All (λ message. All IsText message.segments) messages → All IsEncodable messages
 all-encodable messages limits texts = λ k d within. record { limits = limits k d within; texts = texts k d within }
 
--- one more message behind others
+-- one more message after others
 pub encoded-more : (items : List ℕ) (messages : List RawMessage) (i : ℕ) (message d : RawMessage) → i < length messages → message ≡ get_or messages i d
     → items ≡ flat_map encoded (take i messages) → items ++ encoded message ≡ flat_map encoded (take (i + 1) messages)
 encoded-more items messages i message d within is so_far =

@@ -53,7 +53,7 @@ continued-more first second third piece more start middle last p q bytes given h
     let (others, f, further) = q (bytes ++ piece) (given ++ added) read in
     (added ++ others, f ∙ rw e (append_assoc start added others), rw (append_assoc bytes piece more, append_assoc given added others) at further)
 
--- a fault behind a piece
+-- a fault after a piece
 pub cut-off : (first second : Reading) (piece : List ℕ) (byte : ℕ) (rest : List ℕ) (start middle : List RawMessage) (fault : FrameFault) → IsContinued first piece start second middle → IsStop second byte fault
     → second.framing ≡ first.framing → IsCutOff first (piece ++ byte ∷ rest) start middle fault
 cut-off first second piece byte rest start middle fault p stop same bytes given h =

@@ -9,7 +9,7 @@ use Rattle.com_lines.specs.Frames.{IsSettled}
 use Rattle.com_lines.specs.Reads.{HoldsReturn, IsClearSoFar}
 use Rattle.com_lines.proofs.Runs.{last_of-get}
 
--- what is wrong with a byte that stands behind some bytes and before some
+-- what is wrong with a byte that comes after some bytes and before some
 pub kind_at-behind : (framing : Framing) (before : List ℕ) (byte : ℕ) (after : List ℕ) → kind_at framing (before ++ byte ∷ after) (length before) ≡ kind_of framing before byte after
 kind_at-behind framing before byte after =
     let rest : drop (length before + 1) (before ++ byte ∷ after) ≡ after =

@@ -157,7 +157,8 @@ no-end Lines byte h = lines (byte == 10) h where
   lines true g = absurd cc
   lines false g = refl
 
--- a byte that is allowed, and neither a character nor an ending byte nor between segments, is skipped
+-- a byte that is allowed, and neither a character nor an ending byte nor between segments, is
+-- skipped
 skip-told : (framing : Framing) (last byte : ℕ) → is_text_byte byte ≡ false → is_between framing byte ≡ false → is_ending framing byte ≡ false → is_bad_byte framing last byte 10 ≡ false
     → (is_skipped framing byte ≡ true) × (is_beside_end framing last 10 ≡ true)
 skip-told framing last byte a b c h = parts (is_skipped framing byte) (is_beside_end framing last 10) (rw (a, c, b) at h) where

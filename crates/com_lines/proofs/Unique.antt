@@ -45,7 +45,7 @@ stop-byte Marks Emi = record { none = refl; other = λ e. absurd (omega (arith, 
 stop-byte Marks Egi = record { none = refl; other = λ e. absurd (omega (arith, e)) }
 stop-byte Lines end = record { none = refl; other = λ e. absurd (omega (arith, e)) }
 
--- segments and the byte behind them are told apart in one way
+-- segments and the byte after them are told apart in one way
 joined-unique : (ss ts : List (List ℕ)) (c d : ℕ) (x y : List ℕ) → 1 ≤ length ss → 1 ≤ length ts → All IsText ss → All IsText ts → IsStopByte c → IsStopByte d
     → joined ss ++ c ∷ x ≡ joined ts ++ d ∷ y → (ss ≡ ts) × (c ∷ x ≡ d ∷ y)
 joined-unique [] ts c d x y some others h k p q e = absurd (omega (arith, some))
@@ -88,7 +88,7 @@ same-message m n segments end =
     let second : record { segments = n.segments; end = m.end } ≡ n = ap (λ e. record { segments = n.segments; end = e }) end in
     first ∙ second
 
--- no spelling is the front of another
+-- no spelling is a prefix of another
 spelling-unique : (framing : Framing) (m n : RawMessage) (x y : List ℕ) → IsFramed framing m → IsFramed framing n → spelling framing m ++ x ≡ spelling framing n ++ y → (m ≡ n) × (x ≡ y)
 spelling-unique framing m n x y h k e =
     let c = ending_byte framing m.end in

@@ -42,7 +42,7 @@ before_run test [] = []
 before_run test (byte ∷ bytes) =
     if list_all test (byte ∷ bytes) then [] else byte ∷ before_run test bytes
 
--- what stands behind the last ending byte: all, where there is none
+-- what comes after the last ending byte: all, where there is none
 abbrev pub tail_of : Framing → List ℕ → List ℕ
 tail_of framing bytes = run (is_inside framing) bytes
 

@@ -10,7 +10,7 @@ use Rattle.com_msg.specs.declared.message.TheConstants.{MAX_SEGMENTS, MAX_SEGMEN
 use Rattle.com_lines.specs.declared.reading.TheConstants.{MAX_MESSAGES}
 use Rattle.com_lines.specs.Bytes.{is_between, is_ending, is_skipped, is_kept, last_of, run, tail_of}
 
--- An LF of marks stands directly behind an ending byte, a CR of lines directly before an LF.
+-- An LF of marks is directly after an ending byte, a CR of lines directly before an LF.
 abbrev pub is_beside_end : Framing → ℕ → ℕ → Bool
 is_beside_end Marks last next = is_ending Marks last
 is_beside_end Lines last next = next == 10
@@ -25,11 +25,11 @@ abbrev pub is_bad_byte : Framing → ℕ → ℕ → ℕ → Bool
 is_bad_byte framing last byte next =
     not (is_known framing byte) || (is_skipped framing byte && not (is_beside_end framing last next))
 
--- LongSegment: a character directly behind as many characters as a segment may have, or more
+-- LongSegment: a character directly after as many characters as a segment may have, or more
 abbrev pub is_long_segment : ℕ → ℕ → Bool
 is_long_segment run_length byte = is_text_byte byte && nat_le MAX_SEGMENT_LENGTH run_length
 
--- LongMessage: a character behind as many in its message as a message may have, or an ESI behind as
+-- LongMessage: a character after as many in its message as a message may have, or an ESI after as
 -- many of them as stand between the segments that a message may have
 abbrev pub is_long_message : Framing → ℕ → ℕ → ℕ → Bool
 is_long_message Marks characters betweens byte =
@@ -37,11 +37,11 @@ is_long_message Marks characters betweens byte =
     || (is_between Marks byte && nat_le (MAX_SEGMENTS - 1) betweens)
 is_long_message Lines characters betweens byte = false
 
--- TooMany: an ending byte behind as many of them as messages that an input may have
+-- TooMany: an ending byte after as many of them as messages that an input may have
 abbrev pub is_too_many : Framing → ℕ → ℕ → Bool
 is_too_many framing endings byte = is_ending framing byte && nat_le MAX_MESSAGES endings
 
--- what is wrong with a byte, by the bytes before and behind it: the first kind in this order
+-- what is wrong with a byte, by the bytes before and after it: the first kind in this order
 abbrev pub kind_of : Framing → List ℕ → ℕ → List ℕ → Option FrameKind
 kind_of framing before byte after =
     if is_bad_byte framing (last_of before) byte (get_or after 0 0) then Some BadByte

@@ -23,7 +23,7 @@ IsSafeIn (Faulted fault) reading = Unit {0}
 IsSafeIn NoMemory reading = Unit {0}
 IsSafeIn Ended reading = Unit {0}
 
--- no fault and no want of memory so far
+-- no fault and no out of memory so far
 abbrev pub IsGoing : Framed → Type 0
 IsGoing framer = framer.state ≡ Going
 
@@ -31,7 +31,7 @@ IsGoing framer = framer.state ≡ Going
 abbrev pub HasFaulted : Framed → FrameFault → Type 0
 HasFaulted framer fault = framer.state ≡ Faulted fault
 
--- a call has answered want of memory
+-- a call has answered out of memory
 abbrev pub WantsMemory : Framed → Type 0
 WantsMemory framer = framer.state ≡ NoMemory
 
@@ -55,11 +55,11 @@ StandsIn NoMemory framing reading bytes given = Unit {0}
 StandsIn Ended framing reading bytes given = Unit {0}
 
 -- A framer of this framing has had these bytes and given these messages, which are those that the
--- bytes finish. After want of memory, and after the end, nothing is said.
+-- bytes finish. After out of memory, and after the end, nothing is said.
 abbrev pub StandsFor : Framing → Framed → List ℕ → List RawMessage → Type 0
 StandsFor framing framer bytes given = StandsIn framer.state framing framer.reading bytes given
 
--- an answer of want of memory
+-- an answer of out of memory
 abbrev pub IsMemory : Result (Unit {0}) FeedError → Type 0
 IsMemory (Ok done) = ⊥
 IsMemory (Err (Fault fault)) = ⊥

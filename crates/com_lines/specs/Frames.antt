@@ -38,7 +38,7 @@ pub record IsFramed (framing : Framing) (message : RawMessage) : Type 0 where
   pub texts : All IsText message.segments
 
 -- The messages that end within the bytes: their spellings, joined, are the bytes up to and with the
--- last ending byte, but for the LF or CR that are skipped.
+-- last ending byte, except the LF or CR that are skipped.
 pub record AreEnded (framing : Framing) (bytes : List ℕ) (messages : List RawMessage) : Type 0 where
   pub framed : All (IsFramed framing) messages
   pub spelled : flat_map (spelling framing) messages ≡ filter (is_kept framing) (ended framing bytes)

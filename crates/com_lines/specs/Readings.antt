@@ -70,7 +70,8 @@ abbrev pub IsStop : Reading → ℕ → FrameFault → Type 0
 IsStop reading byte fault = (bytes : List ℕ) (given : List RawMessage) → HasRead reading bytes given
     → IsStopped reading.framing (bytes ++ byte ∷ []) given fault
 
--- one reading after another: the bytes of a piece were read, and the messages that they end were added
+-- one reading after another: the bytes of a piece were read, and the messages that they end were
+-- added
 abbrev pub IsContinued : Reading → List ℕ → List RawMessage → Reading → List RawMessage → Type 0
 IsContinued old piece before new after = (bytes : List ℕ) (given : List RawMessage) → HasRead old bytes given
     → (added : List RawMessage) × (after ≡ before ++ added) × HasRead new (bytes ++ piece) (given ++ added)
@@ -84,8 +85,8 @@ IsCutOff old piece before after fault = (bytes : List ℕ) (given : List RawMess
 abbrev pub has_open : Reading → Bool
 has_open reading = not (length (opened reading.segments reading.text) == 0)
 
--- The input may end here: its last byte is no CR of lines, and where a message is open it is a line,
--- and not one too many.
+-- The input may end here: its last byte is no CR of lines, and where a message is open it is a
+-- line, and not one too many.
 pub record CanEnd (reading : Reading) : Type 0 where
   pub free : holds_return reading ≡ false
   pub open_line : has_open reading ≡ true → (reading.framing ≡ Lines) × (reading.given < MAX_MESSAGES)
@@ -118,7 +119,7 @@ with_character byte reading =
 abbrev pub with_segment : Reading → Reading
 with_segment reading = record reading { segments = reading.segments ++ reading.text ∷ []; text = [] }
 
--- the message that has been open, and the reading behind it
+-- the message that has been open, and the reading after it
 abbrev pub open_message : Reading → End → RawMessage
 open_message reading end = record { segments = reading.segments ++ reading.text ∷ []; end = end }
 

@@ -13,15 +13,15 @@ use std::alloc::{AllocError, Global};
 
 /// ESI, between two segments.
 pub(crate) const BETWEEN: u8 = 0x17;
-/// EMI, behind the last segment of a message.
+/// EMI, after the last segment of a message.
 pub(crate) const MESSAGE_END: u8 = 0x03;
-/// EGI, behind the last segment of a message that ends its group.
+/// EGI, after the last segment of a message that ends its group.
 pub(crate) const GROUP_END: u8 = 0x04;
 /// LF, which may follow EMI and EGI.
 pub(crate) const LINE_FEED: u8 = 0x0A;
 
-/// The bytes that frame the messages by marks, with LF behind each message. The only error is want
-/// of memory.
+/// The bytes that frame the messages by marks, with LF after each message. Fails only if
+/// memory runs out.
 pub fn encode(alloc: Global, messages: &[RawMessage]) -> Result<Rows<u8>, AllocError>
     requires limits { All IsWithinLimits messages.now }
     ensures bytes { IfOk result (λ bytes. bytes ≡ flat_map encoded messages.now) }

@@ -83,7 +83,7 @@ impl Framer {
         ensures again { (fault : FrameFault) → HasFaulted self.old fault
             → (result ≡ Err (FeedError.Fault fault)) × (into.new ≡ into.old) }
 
-        // Want of memory: that nothing is added, and that it is answered again.
+        // Out of memory: that nothing is added, and that it is answered again.
         ensures memory { IsMemory result → WantsMemory self.new × (into.new ≡ into.old) }
         ensures memory_again { WantsMemory self.old → IsMemory result }
     {
@@ -114,7 +114,8 @@ impl Framer {
             → (framing : Framing) (bytes : List ℕ) (given : List RawMessage)
             → StandsFor framing self.old bytes given → Frames framing bytes given (Some fault) }
 
-        // After an error nothing was added, the framer may be called again, and it answers the same.
+        // After an error nothing was added, the framer may be called again, and it answers the
+        // same.
         ensures same { OnErr result (into.new ≡ into.old) }
         ensures unfinished { OnErr result (IsUnfinished self.new) }
         ensures kept { (fault : FrameFault) → result ≡ Err (FeedError.Fault fault)
@@ -158,7 +159,7 @@ fn state_at_end(answer: &Result<(), FeedError>) -> State
     }
 }
 
-/// Reads a piece, and adds the messages that it ends. Without memory nothing is added.
+/// Reads a piece, and adds the messages that it ends. If memory runs out, nothing is added.
 fn feed_into(
     reading: &mut Reading,
     piece: &[u8],
@@ -180,7 +181,7 @@ fn feed_into(
     result
 }
 
-/// Whether an answer is want of memory.
+/// Whether an answer is out of memory.
 fn is_memory(answer: &Result<(), FeedError>) -> bool
     ensures { IsTrue result ↔ IsMemory answer.now }
 {

@@ -12,14 +12,16 @@
 //! assert!(rt; messages.len() == 1);
 //! ```
 //!
-//! - [`Framer`] finds the messages of a terminal's input, whatever pieces it comes in: over any list of
-//!   pieces, what `feed` has added is what the bytes so far finish. It answers a fault exactly where one
-//!   is settled in them, the first, and answers it again at every later call. After `finish` the
-//!   messages and the verdict are those of all bytes by `Frames`, which speaks of places in the whole
-//!   list of bytes. After want of memory a framer answers it always.
-//! - Bytes have one such reading ([`one_reading`]), so the messages that a framer finds in what [`encode`]
-//!   writes are the messages that were written, where there are at most [`MAX_MESSAGES`].
-//! - [`render`] adds exactly the bytes that a message is to a terminal. Without memory nothing changes.
+//! - [`Framer`] finds the messages of a terminal's input, whatever pieces it comes in: over any
+//!   list of pieces, what `feed` has added is what the bytes so far finish. It answers a fault
+//!   exactly if one is settled in them, the first, and answers it again at every later call. After
+//!   `finish` the messages and the verdict are those of all bytes by `Frames`, which speaks of
+//!   places in the whole list of bytes. After out of memory a framer answers it always.
+//! - Bytes have one such reading ([`one_reading`]), so the messages that a framer finds in what
+//!   [`encode`] writes are the messages that were written, where there are at most
+//!   [`MAX_MESSAGES`].
+//! - [`render`] adds exactly the bytes that a message is to a terminal. If memory runs out, nothing
+//!   changes.
 #![tactic(auto)]
 
 mod encoding;

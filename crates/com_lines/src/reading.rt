@@ -211,7 +211,7 @@ impl Reading {
     fn feed_byte(&mut self, byte: u8, messages: &mut Rows<RawMessage>) -> Result<(), FeedError>
         requires safe { IsSafe self.old }
 
-        // What it is ready for behind the byte.
+        // What it is ready for after the byte.
         ensures safe { OnOk result (IsSafe self.new) }
         ensures framing { OnOk result (self.new.framing ≡ self.old.framing) }
 
@@ -336,7 +336,7 @@ impl Reading {
     }
 }
 
-/// Adds a message at the end. Without memory nothing changes.
+/// Adds a message at the end. If memory runs out, nothing changes.
 fn add_message(messages: &mut Rows<RawMessage>, message: RawMessage) -> Result<(), FeedError>
     ensures ok { OnOk result (messages.new ≡ messages.old ++ message ∷ []) }
     ensures err { OnErr result (messages.new ≡ messages.old) }
@@ -347,7 +347,7 @@ fn add_message(messages: &mut Rows<RawMessage>, message: RawMessage) -> Result<(
         .map_err(|(_, error)| FeedError::Memory(error))
 }
 
-/// Whether the framing does not allow a byte directly behind the last.
+/// Whether the framing does not allow a byte directly after the last.
 fn is_bad_byte(framing: Framing, last: u8, byte: u8) -> bool
     ensures { result ≡ is_bad_byte framing last byte 10 }
 {

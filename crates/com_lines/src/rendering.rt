@@ -10,7 +10,7 @@ const LINE_FEED: u8 = 10;
 
 const FORM_FEED: u8 = 12;
 
-/// Adds the bytes of a message at the end, segment by segment. Without memory nothing changes.
+/// Adds the bytes of a message at the end, segment by segment. If memory runs out, nothing changes.
 pub fn render(message: &OutMessage, into: &mut Rows<u8>) -> Result<(), AllocError>
     requires { IsRenderable message.now }
     ensures ok { OnOk result (into.new ≡ into.old ++ rendered_message message.now) }
@@ -24,7 +24,7 @@ pub fn render(message: &OutMessage, into: &mut Rows<u8>) -> Result<(), AllocErro
     added
 }
 
-/// Adds the bytes of a message at the end. Without memory some of them may have been added.
+/// Adds the bytes of a message at the end. If memory runs out, some of them may have been added.
 #[tactic(auto, using(crate::proofs::Fronts::front_of))]
 fn add_message(message: &OutMessage, bytes: &mut Rows<u8>) -> Result<(), AllocError>
     ensures ok { OnOk result (bytes.new ≡ bytes.old ++ rendered_message message.now) }
@@ -36,7 +36,7 @@ fn add_message(message: &OutMessage, bytes: &mut Rows<u8>) -> Result<(), AllocEr
     Ok(())
 }
 
-/// Adds the bytes of a segment at the end. Without memory some of them may have been added.
+/// Adds the bytes of a segment at the end. If memory runs out, some of them may have been added.
 #[tactic(auto, using(crate::proofs::Fronts::front_of))]
 fn add_segment(segment: &OutSegment, bytes: &mut Rows<u8>) -> Result<(), AllocError>
     ensures ok { OnOk result (bytes.new
@@ -64,7 +64,7 @@ fn add_segment(segment: &OutSegment, bytes: &mut Rows<u8>) -> Result<(), AllocEr
     }
 }
 
-/// Adds so many line feeds at the end. Without memory some of them may have been added.
+/// Adds so many line feeds at the end. If memory runs out, some of them may have been added.
 #[tactic(auto, using(crate::proofs::Fronts::front_of))]
 fn add_line_feeds(lines: u8, bytes: &mut Rows<u8>) -> Result<(), AllocError>
     ensures ok { OnOk result (bytes.new ≡ bytes.old ++ line_feeds lines) }

@@ -52,7 +52,7 @@ pub drop_characters-passes : (due : ℕ) (piece : List ℕ) (pieces : List (List
 drop_characters-passes zero piece pieces some h = absurd (omega arith)
 drop_characters-passes (suc n) piece pieces some h = grind (arith, nat_tests)
 
--- the characters behind the first so many, as a range to the end
+-- the characters after the first so many, as a range to the end
 pub to-the-end {ℓ} : {A : Type ℓ} → (n : ℕ) (xs : List A) → take (length xs - n) (drop n xs) ≡ drop n xs
 to-the-end n xs = take_all (length xs - n) (drop n xs) (omega (arith, length-drop n xs))
 
@@ -71,7 +71,7 @@ no-more n skipped i bytes pieces h = rw (drop_all i pieces h, take-nil n) (appen
 pub none-due : (n : ℕ) (bytes xs : List ℕ) → n ≡ 0 → bytes ++ take n xs ≡ bytes
 none-due n bytes xs h = rw h (append-nil bytes)
 
--- characters of a piece that is cut are those behind the cut
+-- characters of a piece that is cut are those after the cut
 cut-by-cases : (b : Bool) (taken size : ℕ) (piece : List ℕ) (pieces : List (List ℕ)) → nat_le (length piece) (taken + size) ≡ b → 1 ≤ size → taken ≤ length piece → drop_characters size (drop taken piece ∷ pieces) ≡ drop_characters (taken + size) (piece ∷ pieces)
 cut-by-cases true taken size piece pieces e some h =
     let within : length piece ≤ taken + size = grind (arith, nat_tests) in

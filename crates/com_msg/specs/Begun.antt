@@ -5,7 +5,7 @@ use Rattle.com_msg.specs.declared.sending.Advance.{Advance}
 use Rattle.com_msg.specs.declared.sending.OutMessage.{OutMessage}
 use Rattle.com_msg.specs.declared.sending.OutSegment.{OutSegment}
 
--- the segments that have ended, and the text behind them
+-- the segments that have ended, and the text after them
 pub record Begun : Type 0 where
   pub segments : List OutSegment
   pub text : List ℕ
@@ -21,7 +21,7 @@ pub record OpenMessage : Type 0 where
 abbrev pub nothing_begun : Begun
 nothing_begun = record { segments = []; text = [] }
 
--- characters behind the text so far
+-- characters after the text so far
 abbrev pub with_text : List ℕ → Begun → Begun
 with_text text begun = record begun { text = begun.text ++ text }
 

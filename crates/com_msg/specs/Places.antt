@@ -1,4 +1,4 @@
--- Where the rest of a message begins: behind some characters of one of its segments.
+-- Where the rest of a message begins: after some characters of one of its segments.
 use Rattle.std.specs.Prelude.{ℕ, ◌≤◌, List, [], ◌∷◌, length, drop, get_or}
 use Rattle.com_msg.specs.declared.rest.Place.{Place}
 
@@ -11,7 +11,7 @@ cut_first taken (piece ∷ pieces) = drop taken piece ∷ pieces
 abbrev pub pieces_at : Place → List (List ℕ) → List (List ℕ)
 pieces_at place segments = cut_first place.taken (drop place.segment segments)
 
--- a place within one of the segments, or behind the last
+-- a place within one of the segments, or after the last
 pub record IsPlace (place : Place) (segments : List (List ℕ)) : Type 0 where
   pub within : place.segment ≤ length segments
   pub taken_within : place.taken ≤ length (get_or segments place.segment [])

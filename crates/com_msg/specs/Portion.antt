@@ -46,7 +46,7 @@ message_portion size end pieces =
     if nat_le (length (concat pieces)) size then (portion_of (concat pieces) (last_key end), [])
     else (portion_of (take size (concat pieces)) more_key, drop_characters size pieces)
 
--- the key of a segment that is given to its end, by the pieces behind it
+-- the key of a segment that is given to its end, by the pieces after it
 abbrev pub key_before : List (List ℕ) → End → ℕ
 key_before [] end = last_key end
 key_before (piece ∷ pieces) end = segment_key

@@ -10,7 +10,7 @@ use std::marker::Model;
 use std::mem;
 
 /// A message to a terminal that has not ended. Contracts see what is begun of it, which is its
-/// segments and the text behind them, and how many more characters and segments it takes without
+/// segments and the text after them, and how many more characters and segments it takes without
 /// asking for memory.
 #[derive(Debug, Drop)]
 pub struct Open {
@@ -52,8 +52,8 @@ impl Open {
         self.segments.is_empty() && self.text.is_empty()
     }
 
-    /// Makes room for `more` characters and for one more segment, and changes nothing else; it never
-    /// takes room away. The only error is want of memory.
+    /// Makes room for `more` characters and for one more segment, and changes nothing else; it
+    /// never takes room away. Fails only if memory runs out.
     pub fn room(&mut self, more: usize) -> Result<(), AllocError>
         ensures begun { self.new.begun ≡ self.old.begun }
 
@@ -67,8 +67,8 @@ impl Open {
         self.segments.reserve(1)
     }
 
-    /// Adds characters to the text. Without memory nothing changes, and within the spare bytes it
-    /// takes none.
+    /// Adds characters to the text. If memory runs out, nothing changes, and within the spare bytes
+    /// it takes none.
     pub fn add(&mut self, bytes: &[u8]) -> Result<(), AllocError>
         requires { IsText bytes.now }
         ensures ok { OnOk result (self.new.begun ≡ with_text bytes.now self.old.begun) }

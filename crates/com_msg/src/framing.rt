@@ -3,8 +3,8 @@
 /// How a terminal marks the ends of its segments and messages.
 #[derive(Clone, Copy, Debug, PartialEq, Eq)]
 pub enum Framing {
-    /// A message is its segments one after another. Byte 17 hexadecimal, ESI, stands behind each
-    /// segment but the last, and behind the last stands 03, EMI, or 04, EGI.
+    /// A message is its segments one after another. Byte 17 hexadecimal, ESI, comes after each
+    /// segment but the last, and after the last stands 03, EMI, or 04, EGI.
     Marks,
     /// Each line is one message of one segment.
     Lines,

@@ -12,16 +12,17 @@
 //! ```
 //!
 //! - [`Stamp::new`] makes a stamp exactly of the digits of a date and a time.
-//! - A [`RawMessage`] is what a terminal's framing finds, a [`Message`] one that has arrived. `copy` is an
-//!   equal message, and `is_within_limits` says whether it has a segment and is within the limits.
-//! - [`Rest::take`] hands out exactly the portion that RECEIVE MESSAGE or RECEIVE SEGMENT gives, text and
-//!   end key, and leaves exactly the rest.
-//! - [`Open`] is a message to a terminal that has not ended: `add`, `end_segment` and `finish` do exactly
-//!   what SEND does for one destination. After `room` a text that is no longer, and the end of a segment
-//!   or of the message, cannot want memory. A [`SharedMessage`] is a message of one text, which is kept once
-//!   for all terminals that are sent it.
+//! - A [`RawMessage`] is what a terminal's framing finds, a [`Message`] one that has arrived.
+//!   `copy` is an equal message, and `is_within_limits` says whether it has a segment and is within
+//!   the limits.
+//! - [`Rest::take`] hands out exactly the portion that RECEIVE MESSAGE or RECEIVE SEGMENT gives,
+//!   text and end key, and leaves exactly the rest.
+//! - [`Open`] is a message to a terminal that has not ended: `add`, `end_segment` and `finish` do
+//!   exactly what SEND does for one destination. After `room` a text that is no longer, and the end
+//!   of a segment or of the message, cannot want memory. A [`SharedMessage`] is a message of one
+//!   text, which is kept once for all terminals that are sent it.
 //!
-//! Without memory nothing changes.
+//! If memory runs out, nothing changes.
 #![tactic(auto)]
 
 mod begun;

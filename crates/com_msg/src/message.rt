@@ -49,7 +49,7 @@ pub struct Message {
 }
 
 impl RawMessage {
-    /// An equal message. The only error is want of memory.
+    /// An equal message. Fails only if memory runs out.
     pub fn copy(&self) -> Result<RawMessage, AllocError>
         ensures { IfOk result (λ message. message ≡ self.now) }
     {

@@ -40,7 +40,7 @@ pub struct Rest {
     place: Place,
 }
 
-/// A place in a list of segments: in the segment of this number, from 0, behind its first `taken`
+/// A place in a list of segments: in the segment of this number, from 0, after its first `taken`
 /// characters.
 #[derive(Clone, Copy, Debug)]
 struct Place {
@@ -102,7 +102,7 @@ impl Rest {
     }
 
     /// Hands out the next characters, `size` of them at most: of the whole message, or of its
-    /// next segment alone. Without memory nothing changes.
+    /// next segment alone. If memory runs out, nothing changes.
     pub fn take(&mut self, kind: Kind, size: u32) -> Result<Portion, AllocError>
         requires unspent { 1 ≤ length self.old.segments }
         requires size { 1 ≤ size }
@@ -238,7 +238,7 @@ pub fn is_longer(pieces: &[Text], reach: usize) -> bool
     false
 }
 
-/// The place behind the first `reach` characters of the pieces. Once none is due, nothing more is
+/// The place after the first `reach` characters of the pieces. Once none is due, nothing more is
 /// passed, not even an empty piece.
 fn place_behind(pieces: &[Text], reach: usize) -> Place
     ensures left { pieces_at result pieces.now ≡ drop_characters reach pieces.now }

@@ -11,7 +11,7 @@ pub const MAX_LINES: u8 = 99;
 /// How many characters the item of a SEND has at most.
 pub const MAX_ITEM_LENGTH: usize = 2_000;
 
-/// How far a terminal advances, and whether before or behind a text.
+/// How far a terminal advances, and whether before or after a text.
 #[derive(Clone, Copy, Debug, PartialEq, Eq)]
 pub enum Advance {
     /// The text stands before so many line feeds, 0 to 99.

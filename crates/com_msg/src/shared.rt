@@ -9,8 +9,8 @@ use std::alloc::{AllocError, Global};
 use std::marker::Model;
 use std::sync::Arc;
 
-/// A message of one segment that several terminals can be sent, and whose text is kept once. Contracts
-/// see the message.
+/// A message of one segment that several terminals can be sent, and whose text is kept once.
+/// Contracts see the message.
 #[derive(Debug, Drop)]
 pub struct SharedMessage {
     segment: Arc<OutSegment>,
@@ -31,8 +31,8 @@ impl Model for SharedMessage {
 }
 
 impl SharedMessage {
-    /// The message of this text alone, which is written with this advance. The only error is want of
-    /// memory.
+    /// The message of this text alone, which is written with this advance. The only error is want
+    /// of memory.
     pub fn new(
         alloc: Global,
         text: &[u8],
@@ -50,7 +50,7 @@ impl SharedMessage {
         }
     }
 
-    /// The message for one more terminal. The only error is want of memory.
+    /// The message for one more terminal. Fails only if memory runs out.
     pub fn message(&self) -> Result<OutMessage, AllocError>
         ensures { IfOk result (λ message. message ≡ self.now) }
     {

@@ -28,7 +28,7 @@ impl Model for Stamp {
 }
 
 impl Stamp {
-    /// The stamp with these digits. None exactly where a byte is no digit, the month is not 01 to
+    /// The stamp with these digits. None exactly if a byte is no digit, the month is not 01 to
     /// 12, the day not 01 to 31, the hour above 23, or the minute or the second above 59.
     pub fn new(date: &[u8; 6], time: &[u8; 8]) -> Option<Stamp>
         ensures some { IsSome result ↔ IsMoment (moment date.now time.now) }

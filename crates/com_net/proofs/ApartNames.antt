@@ -1,4 +1,5 @@
--- Where no name stands twice, the names of terminals and of units are distinct, and no top queue has one of a terminal.
+-- Where no name stands twice, the names of terminals and of units are distinct, and no top queue
+-- has one of a terminal.
 use Rattle.std.proofs.Common.{◌≡◌, ℕ, zero, suc, ◌+◌, ◌-◌, Bool, true, false, not, ◌&&◌, List, [], ◌∷◌, ◌++◌, map, length, None, inl, inr, refl, sym, ap, ◌∙◌, append_assoc, append-nil, if◌then◌else◌}
 use Rattle.std.specs.Prelude.{codes, ◌||◌, ◌==◌}
 use Rattle.std.specs.List.{list_all, list_any}
@@ -32,7 +33,7 @@ no_clash before (x ∷ xs) ys none = elim (cases_Bool (clashes x before)) [
       (rw once rest.0, rw (append_assoc before (x ∷ []) xs) at rest.1)
 ]
 
--- a table that does not clash, and those behind it
+-- a table that does not clash, and those after it
 first_apart : (before : List Place) (x : Place) (xs : List Place) → clash_behind before (x ∷ xs) ≡ None → (clashes x before ≡ false) × (clash_behind (before ++ x ∷ []) xs ≡ None)
 first_apart before x xs none = elim (cases_Bool (clashes x before)) [
   | inl twice ↦ absurd (none-some _ (sym (rw twice at none)))
@@ -43,7 +44,7 @@ first_apart before x xs none = elim (cases_Bool (clashes x before)) [
 abbrev are_new : List (List ℕ) → List (List ℕ) → Bool
 are_new known names = list_all (λ name. not (list_any (bytes_eq name) known)) names
 
--- names that are new behind one more: new before, and other than it
+-- names that are new after one more: new before, and other than it
 apart_from : (known : List (List ℕ)) (name : List ℕ) (names : List (List ℕ)) → are_new (known ++ name ∷ []) names ≡ true → (are_new known names ≡ true) × (list_any (bytes_eq name) names ≡ false)
 apart_from known name [] new = (refl, refl)
 apart_from known name (next ∷ names) new =
@@ -147,7 +148,7 @@ own_top level content names none = elim (cases_Bool (level == 1)) [
     no_tests below [] = refl
     no_tests below (name ∷ ns) = rw below (no_tests below ns)
 
--- the names of terminals stay as they are behind queues
+-- the names of terminals stay as they are after queues
 names_kept : (before : List Place) (level : ℕ) (path : List ℕ) (content : Members) → names_of is_terminal (before ++ record { section = section.Queue level; path = path; table = content } ∷ []) ≡ names_of is_terminal before
 names_kept before level path content = names_of_more is_terminal before (record { section = section.Queue level; path = path; table = content }) ∙ append-nil (names_of is_terminal before)
 

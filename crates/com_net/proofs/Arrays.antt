@@ -28,7 +28,7 @@ are_strings-item (datetime x) items = refl
 are_strings-item (array x) items = refl
 are_strings-item (table x) items = refl
 
--- an element and those behind it
+-- an element and those after it
 pub next_item : (values : List Value) (at : ℕ) (value : Value) → at < length values → value ≡ get_or values at value
     → items_view (drop at values) ≡ item (view value) (items_view (drop (at + 1) values))
 next_item values at value within is = ap items_view (drop_more values at value within) ∙ ap (λ v. item (view v) (items_view (drop (at + 1) values))) (sym is)

@@ -82,7 +82,7 @@ net_fault_of-no_table : net_fault_of no_table ≡ Some (kind.WrongKind, codes "u
 unfolding on_literals
 net_fault_of-no_table = refl
 
--- two units of one name, behind one that has the name of a terminal
+-- two units of one name, after one that has the name of a terminal
 net_fault_of-two_units : net_fault_of two_units ≡ Some (kind.TwiceNamed, codes "unit.3.name")
 unfolding on_literals
 net_fault_of-two_units = refl

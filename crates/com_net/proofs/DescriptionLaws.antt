@@ -18,7 +18,7 @@ use Rattle.com_net.specs.TreeFaults.{bad_tree}
 use Rattle.com_net.specs.Description.{told, document_fault, parts_of, document_of, is_too_long, net_of, net_fault_of}
 use Rattle.com_net.proofs.FaultlessNets.{parts_are_net}
 
--- a fault of another kind is not this one, so this one is behind it
+-- a fault of another kind is not this one, so this one is after it
 behind : (other : NetKind) (path : Option (List ℕ)) (rest : Option (NetKind × List ℕ)) (place : List ℕ) → (other ≡ kind.OverLimit → ⊥) → option_or (told other path) rest ≡ Some (kind.OverLimit, place) → rest ≡ Some (kind.OverLimit, place)
 behind other None rest place apart is = is
 behind other (Some x) rest place apart is =

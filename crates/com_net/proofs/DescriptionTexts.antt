@@ -92,17 +92,17 @@ trees_net = record {
 abbrev pub route_to_nowhere : List ℕ
 route_to_nowhere = version ++ terminal_to (codes "[\"Q2\"]") ++ q1 ++ echo
 
--- eleven characters, behind a route that is no fault
+-- eleven characters, after a route that is no fault
 abbrev pub long_password : List ℕ
 long_password =
     version ++ terminal_to (codes "[\"Q1\"]") ++ queue_with (codes "Q1") (codes "01234567890") ++ echo
 
--- a unit without a source, behind a terminal with a wrong kind
+-- a unit without a source, after a terminal with a wrong kind
 abbrev pub missing_source : List ℕ
 missing_source =
     version ++ printer ++ codes "input-enabled = 1\n" ++ q1 ++ codes "[[unit]]\nname = \"ECHO\"\n"
 
--- an empty schedule, behind a terminal with an unknown key
+-- an empty schedule, after a terminal with an unknown key
 abbrev pub empty_schedule : List ℕ
 empty_schedule = version ++ printer ++ codes "baud = 110\n" ++ q1 ++ echo ++ codes "schedule = []\n"
 
@@ -146,7 +146,7 @@ no_terminals = version ++ codes "terminal = []\n" ++ q1 ++ echo
 abbrev pub no_table : List ℕ
 no_table = version ++ codes "unit = [{}, 1]\n" ++ printer ++ q1
 
--- two units of one name, behind one that has the name of a terminal
+-- two units of one name, after one that has the name of a terminal
 abbrev pub two_units : List ℕ
 two_units = version ++ printer ++ q1 ++ codes "[[unit]]\nname = \"P-1\"\nsource = \"p.cob\"\n" ++ echo ++ echo
 
@@ -164,7 +164,7 @@ route_to_inner =
     version ++ terminal_to (codes "[\"Q1\"]") ++ q1
     ++ codes "choose = \"ordered\"\nsub = [{name = \"A\"}]\n" ++ echo
 
--- a schedule that leads to no node, behind an empty password
+-- a schedule that leads to no node, after an empty password
 abbrev pub schedule_to_nowhere : List ℕ
 schedule_to_nowhere =
     version ++ printer ++ queue_with (codes "Q1") [] ++ echo ++ codes "schedule = [\"Q1\", \"B\"]\n"
@@ -207,11 +207,11 @@ small_printer = codes "[[terminal]]\nname = \"p\"\npassword = \"P\"\n"
 abbrev pub empty_inner : List ℕ
 empty_inner = q1 ++ codes "choose = \"ordered\"\nsub = []\n"
 
--- a key that no unit has, behind a terminal whose name is none
+-- a key that no unit has, after a terminal whose name is none
 abbrev pub unknown_before_name : List ℕ
 unknown_before_name = version ++ small_printer ++ q1 ++ echo ++ codes "zz = 1\n"
 
--- a file name that is none, behind two terminals of one name
+-- a file name that is none, after two terminals of one name
 abbrev pub name_before_twice : List ℕ
 name_before_twice =
     version ++ printer ++ printer ++ q1 ++ codes "[[unit]]\nname = \"ECHO\"\nsource = \".x\"\n"
@@ -220,7 +220,7 @@ name_before_twice =
 abbrev pub twice_before_tree : List ℕ
 twice_before_tree = version ++ empty_inner ++ printer ++ printer ++ echo
 
--- an inner queue without queues below it, behind a route that leads nowhere
+-- an inner queue without queues below it, after a route that leads nowhere
 abbrev pub tree_before_route : List ℕ
 tree_before_route = version ++ terminal_to (codes "[\"Q2\"]") ++ empty_inner ++ echo
 

@@ -1,4 +1,5 @@
--- The names of terminals and of units, in order, and a set of names that grows by one after another.
+-- The names of terminals and of units, in order, and a set of names that grows by one after
+-- another.
 use Rattle.std.proofs.Common.{◌≡◌, ℕ, Bool, true, false, not, List, [], ◌∷◌, ◌++◌, length, refl, sym, ◌∙◌, arith, append_assoc}
 use Rattle.std.specs.Prelude.{fold, position, IsTrue}
 use Rattle.std.specs.List.{list_any, list_all, prefix_len}

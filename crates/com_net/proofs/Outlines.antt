@@ -37,7 +37,7 @@ rows_of_queues document =
     ∙ rw (rows-append (top ∷ terminals) queues, no_rows section.Terminal 1 (codes "terminal") (tables_at key.Terminals document) (λ content. refl), no_rows section.Unit 1 (codes "unit") (tables_at key.Units document) (λ content. refl))
     (append-nil (tree_rows queues))
 
--- a row may stand behind one that is a parent of its level or of a level as deep
+-- a row may come after one that is a parent of its level or of a level as deep
 record Leads (level : ℕ) (row : TreeRow) : Type 0 where
   here : (level ≤ row.depth) ⊎ ((row.depth + 1 ≡ level) × (is_leaf row ≡ false))
 
@@ -125,7 +125,7 @@ outline_of above row rows at all =
     let top : (row.depth == 1) ≡ true = grind (arith, nat_tests, at) in
     rw (top, (and_parts (nat_le 1 row.depth && may_stand_behind above row) (are_outlined row rows) all).1) refl
 
--- the rows of queues are outlined behind a row that leads to their level
+-- the rows of queues are outlined after a row that leads to their level
 outlined : (levels level number : ℕ) (path : List ℕ) (tables : List Members) (row : TreeRow) (rest : List TreeRow) → level + levels ≡ 5 → 1 ≤ level → Leads level row
     → ((last : TreeRow) → level ≤ last.depth + 1 → are_outlined last rest ≡ true) → are_outlined row (tree_rows (queues_from levels number path tables) ++ rest) ≡ true
 outlined zero level number path tables row rest at some leads on = on row (deep_enough level row leads)

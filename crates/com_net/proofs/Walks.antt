@@ -55,7 +55,7 @@ pub no_queues : (levels number : ℕ) (path : List ℕ) → queues_from levels n
 no_queues zero number path = refl
 no_queues (suc levels) number path = refl
 
--- where a queue and those below it were added, those behind it are left
+-- where a queue and those below it were added, those after it are left
 pub kept_queue : (levels number : ℕ) (path own : List ℕ) (old new : List Place) (content : Members) (contents : List Members) → 1 ≤ levels → own ≡ element path number
     → new ≡ old ++ record { section = section.Queue (4 - (levels - 1)); path = own; table = content }
     ∷ queues_from (levels - 1) 1 (below own (codes "sub")) (tables_at key.Children content)

@@ -30,7 +30,7 @@ early_fault tables =
     (option_or (told kind.BadName (first_of bad_name tables))
     (told kind.TwiceNamed (twice_named tables)))))
 
--- and of those behind
+-- and of those after
 abbrev pub late_fault : List TreeRow → List Place → Members → Option (NetKind × List ℕ)
 late_fault rows tables document =
     option_or (told kind.BadRoute (first_of (bad_route rows) tables))

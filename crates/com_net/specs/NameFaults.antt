@@ -1,4 +1,5 @@
--- Names that two terminals, two units, or a terminal and a top queue share, and how many there may be.
+-- Names that two terminals, two units, or a terminal and a top queue share, and how many there may
+-- be.
 use Rattle.std.specs.Prelude.{ℕ, Bool, true, false, not, ◌&&◌, ◌==◌, nat_le, List, [], ◌∷◌, ◌++◌, length, Option, Some, None, codes, if◌then◌else◌}
 use Rattle.std.specs.List.{list_any}
 use Rattle.std.specs.Str.{bytes_eq}

@@ -35,8 +35,8 @@ places_from number section path (table ∷ tables) =
     record { section = section; path = element path number; table = table }
     ∷ places_from (number + 1) section path tables
 
--- queues numbered from this number on, each before the queues below it, down to so many levels; none
--- below the lowest level of a tree is looked at
+-- queues numbered from this number on, each before the queues below it, down to so many levels;
+-- none below the lowest level of a tree is looked at
 abbrev pub queues_from : ℕ → ℕ → List ℕ → List Members → List Place
 queues_from zero number path tables = []
 queues_from (suc levels) number path [] = []

@@ -23,7 +23,7 @@ use com_tree::{Node, Tree};
 use std::alloc::{AllocError, Global};
 use toml::Table;
 
-/// The lists of a network but for its tree.
+/// The lists of a network except its tree.
 #[derive(Drop)]
 pub struct Gathered {
     pub terminals: Vec<Terminal>,

@@ -315,7 +315,7 @@ fn is_password_or_none(value: &Value) -> bool
     }
 }
 
-/// The number of the first string that is no name, behind a period.
+/// The number of the first string that is no name, after a period.
 fn bad_part(alloc: Global, values: &[Value]) -> Result<Option<Text>, AllocError>
     ensures { IfOk result (λ found. found ≡ bad_part 1 (strings_of (items_view values.now))) }
 {

@@ -5,7 +5,7 @@ ghost use Rattle.com_net.specs.declared.fault.NetKind.TheVariants as kind;
 ghost use Rattle.com_net.specs.Network.{IsNet};
 ghost use Rattle.com_net.specs.Description.{document_fault, parts_of, net_of, net_fault_of};
 
-/// A description is refused as too long exactly where it has more than 1,048,576 bytes, whatever
+/// A description is refused as too long exactly if it has more than 1,048,576 bytes, whatever
 /// they are.
 pub fn a_description_is_too_long_by_its_length_alone()
     ensures { (bytes : List ℕ)

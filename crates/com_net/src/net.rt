@@ -85,7 +85,7 @@ impl Model for Net {
 }
 
 impl Net {
-    /// The network with these parts. The only error is want of memory.
+    /// The network with these parts. Fails only if memory runs out.
     pub fn of(
         alloc: Global,
         terminals: Rows<Terminal>,
@@ -120,7 +120,7 @@ impl Net {
         })
     }
 
-    /// A network with the same parts. The only error is want of memory.
+    /// A network with the same parts. Fails only if memory runs out.
     pub fn copy(&self) -> Result<Net, AllocError>
         ensures { IfOk result (λ copy. copy ≡ self.now) }
     {
@@ -133,7 +133,7 @@ impl Net {
         Net::of(alloc, terminals, tree, queue_passwords, leaf_on, units)
     }
 
-    /// The number of the terminal with a name: None exactly where there is none.
+    /// The number of the terminal with a name: None exactly if there is none.
     pub fn terminal(&self, name: &Name) -> Option<u32>
         ensures number { result ≡ terminal_number self.now name.now }
         ensures within { IfSome result (λ number. number < length self.now.terminals) }
@@ -141,7 +141,7 @@ impl Net {
         number_of(&self.terminal_names, name)
     }
 
-    /// The number of the unit with a name: None exactly where there is none.
+    /// The number of the unit with a name: None exactly if there is none.
     pub fn unit(&self, name: &Name) -> Option<u32>
         ensures number { result ≡ unit_number self.now name.now }
         ensures within { IfSome result (λ number. number < length self.now.units) }
@@ -193,7 +193,7 @@ fn set_of(alloc: Global, names: &[Name]) -> Result<IndexSet<Name>, AllocError>
 
 /// What is copied where there is memory.
 trait TryCopy: Drop {
-    /// An equal value. The only error is want of memory.
+    /// An equal value. Fails only if memory runs out.
     fn try_copy(&self) -> Result<Self, AllocError>
         ensures { IfOk result (λ copy. copy ≡ self.now) };
 }

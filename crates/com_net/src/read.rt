@@ -108,7 +108,7 @@ fn early_fault(alloc: Global, places: &[TableAt<'_>]) -> Result<Option<NetFault>
     Ok(None)
 }
 
-/// The first fault of the kinds behind those of the trees.
+/// The first fault of the kinds after those of the trees.
 fn late_fault(
     alloc: Global,
     tree: &Tree,

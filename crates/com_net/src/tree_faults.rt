@@ -96,7 +96,8 @@ fn choose_of(table: &Table) -> Option<Choose>
     }
 }
 
-/// Where a fault of the trees is told: an empty tree at the array that is empty, others at the node.
+/// Where a fault of the trees is told: an empty tree at the array that is empty, others at the
+/// node.
 fn tree_path(
     alloc: Global,
     places: &[TableAt<'_>],

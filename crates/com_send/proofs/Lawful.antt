@@ -141,7 +141,7 @@ messages_of state = state.sent ++ state.queued
 abbrev NoneLeft : DestinationState → Type 0
 NoneLeft state = state.on ≡ true → state.queued ≡ []
 
--- a change puts these messages behind those that go to a destination
+-- a change puts these messages after those that go to a destination
 record Adds (messages : List OutMessage) (before after_it : DestinationState) : Type 0 where
   all : messages_of after_it ≡ messages_of before ++ messages
   none_left : NoneLeft after_it
@@ -187,7 +187,7 @@ switch_adds : (on : Bool) (state : DestinationState) → NoneLeft state → Adds
 switch_adds true state none = record { all = refl; none_left = λ on. refl }
 switch_adds false state none = nothing_added state (switch false state) refl (λ on. absurd (false≢true on))
 
--- a call puts what it finishes behind what goes to a destination
+-- a call puts what it finishes after what goes to a destination
 abbrev Steps : List OutMessage → DestinationState → Outgoing → ℕ → Type 0
 Steps messages state next at = (new : DestinationState) × (slice_get next at ≡ Some new) × Adds messages state new
 

@@ -64,7 +64,7 @@ told area own status within e =
     ∙ (ap status_of (sym (read_back area (status_bytes own) 8 2 within (two_bytes own)) ∙ e)
     ∙ status_of_bytes status)
 
--- error keys leave the front of an area
+-- error keys leave the beginning of an area
 long_key : (area : List ℕ) (at : ℕ) (destination : Option ℕ) → 8 ≤ length area → 8 ≤ length (keyed area (at, destination))
 long_key area at destination h =
     let front = take (10 + 13 * at) area in

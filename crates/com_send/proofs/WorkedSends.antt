@@ -21,7 +21,7 @@ t2 = record { name = codes "T2"; password = codes "OTHER"; on = false }
 abbrev pub both : List Destination
 both = t1 ∷ t2 ∷ []
 
--- one segment behind one line feed, and EMI
+-- one segment after one line feed, and EMI
 abbrev pub one_line : List ℕ → OutMessage
 one_line text = record {
   segments = record { text = text; advance = advance.After 1 } ∷ [];
@@ -35,7 +35,7 @@ enabled_with sent = record { on = true; begun = nothing_begun ∷ []; queued = [
 abbrev pub disabled_with : List OutMessage → DestinationState
 disabled_with queued = record { on = false; begun = nothing_begun ∷ []; queued = queued; sent = [] }
 
--- a text with EMI behind one line feed, from the only unit
+-- a text with EMI after one line feed, from the only unit
 abbrev pub sends_line : List Destination → Outgoing → List ℕ → List ℕ → Answer
 sends_line destinations outgoing area text =
     send destinations outgoing 0 area (part.Emi (advance.After 1)) (Some text)

@@ -1,4 +1,5 @@
--- What SEND, ENABLE and DISABLE OUTPUT leave as it was, and in which order messages are transmitted.
+-- What SEND, ENABLE and DISABLE OUTPUT leave as it was, and in which order messages are
+-- transmitted.
 use Rattle.std.specs.Prelude.{◌≡◌, ℕ, Bool, true, false, List, [], ◌∷◌, ◌++◌, Option, Some, None, if◌then◌else◌}
 use Rattle.com_msg.specs.Begun.{Begun, with_text, finished}
 use Rattle.com_msg.specs.declared.message.End.TheVariants.{Emi as with_emi, Egi as with_egi}
@@ -62,7 +63,7 @@ finished_of (Esi advance) begun = []
 finished_of (Emi advance) begun = finished advance with_emi begun ∷ []
 finished_of (Egi advance) begun = finished advance with_egi begun ∷ []
 
--- with this text behind what the unit has begun
+-- with this text after what the unit has begun
 abbrev pub finished_with : Part → List ℕ → Option Begun → List OutMessage
 finished_with part text None = []
 finished_with part text (Some begun) = finished_of part (with_text text begun)
@@ -88,7 +89,7 @@ finished_by_all destinations outgoing (verb ∷ verbs) at =
     finished_by destinations outgoing verb at
     ++ finished_by_all destinations (after destinations outgoing verb) verbs at
 
--- What was transmitted, and what is queued behind it, is what was finished, in order; and nothing is
+-- What was transmitted, and what is queued after it, is what was finished, in order; and nothing is
 -- queued where the destination is enabled.
 pub record IsInOrder (messages : List OutMessage) (state : DestinationState) : Type 0 where
   pub all : state.sent ++ state.queued ≡ messages

@@ -17,7 +17,7 @@ use Rattle.com_send.specs.declared.destination.Destination.{Destination}
 use Rattle.com_send.specs.Outgoing.{DestinationState, Outgoing, with_begun}
 use Rattle.com_send.specs.Found.{Found, find_destinations, is_among, has_unknown, at_each, with_status, with_keys}
 
--- a finished message is transmitted where the destination is enabled, and else queued
+-- a finished message is transmitted where the destination is enabled, and otherwise queued
 abbrev pub deliver : OutMessage → DestinationState → DestinationState
 deliver message state =
     if state.on then record state { sent = state.sent ++ message ∷ [] }
@@ -72,7 +72,7 @@ abbrev pub has_disabled : Found → Outgoing → Bool
 has_disabled found outgoing =
     list_any (λ (at, state). is_among found at && not state.on) (enumerate_from 0 outgoing)
 
--- 20 where a destination is unknown, else 10 where a known one is disabled, else 00
+-- 20 where a destination is unknown, otherwise 10 where a known one is disabled, otherwise 00
 abbrev pub send_status : Found → Outgoing → Status
 send_status found outgoing =
     if has_unknown found then S20 else if has_disabled found outgoing then S10 else S00

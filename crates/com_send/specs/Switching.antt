@@ -24,7 +24,7 @@ is_key_of_each found key destinations =
     list_all (λ (at, destination). not (is_among found at) || is_key key destination.password)
     (enumerate_from 0 destinations)
 
--- 20 where a destination is unknown, else 00
+-- 20 where a destination is unknown, otherwise 00
 abbrev pub switch_status : Found → Status
 switch_status found = if has_unknown found then S20 else S00
 

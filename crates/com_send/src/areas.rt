@@ -197,8 +197,8 @@ pub fn write_keys(area: &mut OutArea, found: &[Option<usize>], status: Status)
     write_status(area, status);
 }
 
-/// The leftmost TEXT LENGTH characters of the item, and none without an item: None where TEXT LENGTH
-/// is no number, or more than the item has.
+/// The leftmost TEXT LENGTH characters of the item, and none without an item: None where TEXT
+/// LENGTH is no number, or more than the item has.
 pub fn sent_text<'a>(area: &OutArea, item: Option<&'a Text>) -> Option<&'a [u8]>
     ensures characters { option_copied result ≡ sent_text area.now (option_copied item.entry) }
     ensures text { IfSome result (λ text. IsText text.now) }

@@ -13,14 +13,15 @@
 //! ```
 //!
 //! - [`Outs::send`] does exactly what SEND does, and writes the outcome into the area: each known
-//!   destination is served once, an unknown one stops no other, and with status key 30, 50 or 60 nothing else changes.
-//! - [`Outs::switch`] does exactly what ENABLE and DISABLE OUTPUT do: an enabled destination is sent what
-//!   is queued for it, in order.
+//!   destination is served once, an unknown one stops no other, and with status key 30, 50 or 60
+//!   nothing else changes.
+//! - [`Outs::switch`] does exactly what ENABLE and DISABLE OUTPUT do: an enabled destination is
+//!   sent what is queued for it, in order.
 //! - [`Outs::transmitted`] is what was transmitted to a destination, in order, and can be rendered.
-//! - The laws say what these calls leave as it was, and that every message is transmitted whole and in
-//!   the order in which it was finished.
+//! - The laws say what these calls leave as it was, and that every message is transmitted whole and
+//!   in the order in which it was finished.
 //!
-//! Without memory nothing changes, whatever the number of destinations.
+//! If memory runs out, nothing changes, whatever the number of destinations.
 #![tactic(auto)]
 
 mod areas;

@@ -54,7 +54,8 @@ impl Output {
         })
     }
 
-    /// Makes room for what a part makes of its text. Without memory nothing that is seen changes.
+    /// Makes room for what a part makes of its text. If memory runs out, nothing that is seen
+    /// changes.
     pub fn room(&mut self, unit: u32, sent_part: &SentPart<'_>) -> Result<(), AllocError>
         requires known { unit < length self.old.begun.items }
         requires part { IsSentPart sent_part.now }
@@ -104,8 +105,8 @@ impl Output {
         }
     }
 
-    /// What becomes of a finished message: it is transmitted where the output is enabled, and else
-    /// queued.
+    /// What becomes of a finished message: it is transmitted where the output is enabled, and
+    /// otherwise queued.
     fn deliver(&mut self, message: OutMessage)
         requires { HasPlace self.old }
         ensures { state_of self.new ≡ deliver message (state_of self.old) }
@@ -146,8 +147,8 @@ impl Output {
     }
 }
 
-/// The whole message, for a destination to which nothing is begun. Else there is room for the text and
-/// for a segment.
+/// The whole message, for a destination to which nothing is begun. Else there is room for the text
+/// and for a segment.
 fn ready_message(
     begun: &mut Open,
     sent_part: &SentPart<'_>,

@@ -30,8 +30,9 @@ pub fn outputs_of(
     Ok(outputs)
 }
 
-/// Serves each destination that is named, once, and answers the status key: 20 where a destination is
-/// unknown, else 10 where a known one is disabled, else 00. Without memory nothing changes.
+/// Serves each destination that is named, once, and answers the status key: 20 where a destination
+/// is unknown, otherwise 10 where a known one is disabled, otherwise 00. If memory runs out,
+/// nothing changes.
 pub fn send_to(
     alloc: Global,
     outputs: &mut [Output],
@@ -57,7 +58,7 @@ pub fn send_to(
     Ok(status)
 }
 
-/// Enables or disables each destination that is named. Without memory nothing changes.
+/// Enables or disables each destination that is named. If memory runs out, nothing changes.
 pub fn switch(outputs: &mut [Output], found: &[Option<usize>], on: bool) -> Result<(), AllocError>
     ensures ok { OnOk result (states_of outputs.new
         ≡ at_each found.now (switch on) (states_of outputs.old)) }
@@ -143,8 +144,8 @@ fn switch_each(outputs: &mut [Output], found: &[Option<usize>], on: bool)
     }
 }
 
-/// The status key of a SEND that is served: 20 where a destination is unknown, else 10 where a known
-/// one is disabled, else 00.
+/// The status key of a SEND that is served: 20 where a destination is unknown, otherwise 10 where a
+/// known one is disabled, otherwise 00.
 fn send_status(outputs: &[Output], found: &[Option<usize>]) -> Status
     ensures { result ≡ send_status found.now (states_of outputs.now) }
 {

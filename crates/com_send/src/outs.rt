@@ -79,8 +79,9 @@ impl Outs {
     }
 
     /// SEND of a unit: the leftmost TEXT LENGTH characters of an item, or none without an item, are
-    /// added to what the unit has begun at each known destination of the area, and the part ends the
-    /// segment and the message. The area tells what became of it. Without memory nothing changes.
+    /// added to what the unit has begun at each known destination of the area, and the part ends
+    /// the segment and the message. The area tells what became of it. If memory runs out, nothing
+    /// changes.
     pub fn send(
         &mut self,
         unit: u32,
@@ -94,7 +95,7 @@ impl Outs {
             ≡ send self.old.destinations self.old.outgoing unit area.old part
             (option_copied item.entry)) }
 
-        // What stays, and that nothing changes without memory.
+        // What stays, and that nothing changes if memory runs out.
         ensures destinations { self.new.destinations ≡ self.old.destinations }
         ensures units { self.new.units ≡ self.old.units }
         ensures err { OnErr result (self.new ≡ self.old) }
@@ -119,13 +120,13 @@ impl Outs {
     }
 
     /// ENABLE OUTPUT and DISABLE OUTPUT, where the key is the password of each known destination of
-    /// the area: it is enabled, and what is queued for it is transmitted, or it is disabled. The area
-    /// tells what became of it. Without memory nothing changes.
+    /// the area: it is enabled, and what is queued for it is transmitted, or it is disabled. The
+    /// area tells what became of it. If memory runs out, nothing changes.
     pub fn switch(&mut self, on: bool, area: &mut OutArea, key: &Text) -> Result<(), AllocError>
         ensures switched { OnOk result ((area.new, self.new.outgoing)
             ≡ switch_output self.old.destinations self.old.outgoing on area.old key.now) }
 
-        // What stays, and that nothing changes without memory.
+        // What stays, and that nothing changes if memory runs out.
         ensures destinations { self.new.destinations ≡ self.old.destinations }
         ensures units { self.new.units ≡ self.old.units }
         ensures err { OnErr result (self.new ≡ self.old) }
@@ -178,7 +179,7 @@ fn is_key_of_each(destinations: &[Destination], found: &[Option<usize>], key: &T
 }
 
 /// The status key of an ENABLE or DISABLE OUTPUT whose key is right: 20 where a destination is
-/// unknown, else 00.
+/// unknown, otherwise 00.
 fn switch_status(found: &[Option<usize>]) -> Status
     ensures { result ≡ switch_status found.now }
 {

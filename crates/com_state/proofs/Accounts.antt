@@ -79,7 +79,7 @@ pub record Accounts (network : Net) (arrivals : List Arrival) (handed : List Han
   pub whole : AreWhole S arrivals handed
   pub order : AreInOrder arrivals handed S.incoming.waiting
 
--- a portion of this message comes behind its others
+-- a portion of this message comes after its others
 pub portions_same : (handed : List HandedOut) (portion : HandedOut) (number : ℕ) → portion.arrival ≡ number → portions_in (handed ++ portion ∷ []) number ≡ portions_in handed number ++ portion ∷ []
 portions_same handed portion number e =
     let here : (portion.arrival == number) ≡ true = eq-eqb portion.arrival number e in

@@ -106,7 +106,7 @@ numbers_elsewhere leaf arrivals new ne =
     let fails : (new.leaf == leaf) ≡ false = ne_eqb new.leaf leaf ne in
     ap (map number) (filter-append on arrivals (new ∷ []) ∙ (ap (λ b. filter on arrivals ++ cond b (new ∷ []) []) fails ∙ append-nil (filter on arrivals)))
 
--- the new message waits on its leaf behind the others
+-- the new message waits on its leaf after the others
 on_behind : (leaf : ℕ) (waiting : List Waiting) (w : Waiting) → w.leaf.number ≡ leaf → waiting_on leaf (waiting ++ w ∷ []) ≡ waiting_on leaf waiting ++ w.message.arrival ∷ []
 on_behind leaf waiting w here =
     let on = λ (w : Waiting). w.leaf.number == leaf in

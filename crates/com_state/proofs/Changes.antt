@@ -1,4 +1,5 @@
--- What a step may change of the messages: nothing, or one arrives, a unit stops, or a portion is given.
+-- What a step may change of the messages: nothing, or one arrives, a unit stops, or a portion is
+-- given.
 use Rattle.std.proofs.Common.{◌≡◌, ℕ, ◌+◌, not, [], ◌∷◌, ◌++◌, Some, None, Option, List, refl, ap, ◌∙◌, inl, inr}
 use Rattle.std.specs.Prelude.{◌==◌, slice_get}
 use Rattle.std.specs.List.{filter}

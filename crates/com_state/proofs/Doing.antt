@@ -229,7 +229,7 @@ arrive_allowed S terminal name stamp message = elim (option_cases (feed_of S.net
 all_from : (test : ℕ → Bool) (n i : ℕ) → i < n → list_all test (range_with_len i (n - i)) ≡ (test i && list_all test (range_with_len (i + 1) (n - (i + 1))))
 all_from test n i less = let more : n - i ≡ suc (n - (i + 1)) = omega arith in rw more refl
 
--- where the test holds of a number, those behind it decide
+-- where the test holds of a number, those after it decide
 pub all_on : (test : ℕ → Bool) (n i : ℕ) → i < n → test i ≡ true → list_all test (range_with_len (i + 1) (n - (i + 1))) ≡ list_all test (range_with_len i (n - i))
 all_on test n i less holds = sym (all_from test n i less ∙ ap (λ (b : Bool). b && list_all test (range_with_len (i + 1) (n - (i + 1)))) holds)
 

@@ -1,4 +1,4 @@
--- The message that waits first on a leaf, and those that wait behind it.
+-- The message that waits first on a leaf, and those that wait after it.
 use Rattle.std.proofs.Common.{◌≡◌, ◌≢◌, ℕ, false, List, [], ◌∷◌, ◌++◌, Some, None, Option, map, refl, sym, ap, ◌∙◌, inl, inr}
 use Rattle.std.specs.Prelude.{◌⊎◌, ◌==◌, option_map}
 use Rattle.std.specs.List.{filter, find}

@@ -50,7 +50,7 @@ queues_arrival terminal S = elim (option_cases (slice_get S.terminals terminal))
   | inr some ↦ rw (some.1, with_arrival) record { net = refl; incoming = refl; outgoing = refl }
 ]
 
--- what a verb leaves behind its own work
+-- what a verb leaves after its own work
 pub after_verb : (unit : ℕ) (S : State) (reply : Reply) (next : State) (done : Reply × State) → with_reply unit done ≡ (reply, next) → SameQueues done.1 next
 after_verb unit S reply next done h = subst (λ (p : Reply × State). SameQueues done.1 p.1) h (queues_verb unit done.1)
 

@@ -1,4 +1,4 @@
--- The fronts of legal histories, and what calls make.
+-- The prefixes of legal histories, and what calls make.
 use Rattle.std.proofs.Common.{◌≡◌, List, [], ◌∷◌, ◌++◌, Some, refl, sym, ap, subst, ◌∙◌}
 use Rattle.std.specs.Prelude.{map, option_map}
 use Rattle.std.proofs.lemmas.Option.{option_and_then_some, same_Some}
@@ -19,7 +19,7 @@ leads_split S (entry ∷ before) after last h =
     let rest = leads_split h.0 before after last h.2 in
     (rest.0, (h.0, h.1, rest.1), rest.2)
 
--- the front of a legal history is legal
+-- the beginning of a legal history is legal
 pub front_is_legal : (net : Net) (before after : List Entry) → Legal net (before ++ after) → Legal net before
 front_is_legal net before after legal =
     let split = leads_split (opening net) before after legal.0 legal.1 in

@@ -1,4 +1,5 @@
--- What a RECEIVE goes on with is the rest of one message, and the only one that the unit has from its leaf.
+-- What a RECEIVE goes on with is the rest of one message, and the only one that the unit has from
+-- its leaf.
 use Rattle.std.proofs.Common.{◌≡◌, ◌≢◌, ℕ, true, false, cond, List, [], ◌∷◌, ◌++◌, Some, None, map, refl, sym, ap, ◌∙◌, inl, inr, subst, eq-eqb, append_assoc}
 use Rattle.std.specs.Prelude.{◌==◌, option_map}
 use Rattle.std.specs.List.{filter, list_all}

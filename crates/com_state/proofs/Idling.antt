@@ -1,5 +1,5 @@
--- In an idle system no call is possible but STOP IDLE and END IDLE; a party that has stopped or ended
--- has no call.
+-- In an idle system no call is possible but STOP IDLE and END IDLE; a party that has stopped or
+-- ended has no call.
 use Rattle.std.proofs.Common.{◌≡◌, ℕ, ◌<◌, ◌≤◌, Bool, true, false, ◌&&◌, List, [], ◌∷◌, length, Some, None, Option, refl, sym, ap, ◌∙◌, inl, inr, arith, nat_lt}
 use Rattle.std.specs.Prelude.{◌⊎◌, is_some, is_none}
 use Rattle.std.specs.List.{list_all, range_with_len}

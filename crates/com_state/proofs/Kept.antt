@@ -119,7 +119,7 @@ kept_receive S unit area kind size call = elim (option_cases (designated S.net.t
 
 -- SEND
 
--- a destination is changed where it is named, and else it stays
+-- a destination is changed where it is named, and otherwise it stays
 changed_at : Found → (DestinationState → DestinationState) → ℕ → DestinationState → DestinationState
 changed_at found change at state = if is_among found at then change state else state
 

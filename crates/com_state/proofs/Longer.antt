@@ -12,7 +12,7 @@ use Rattle.com_state.specs.Histories.{run_from, entry_before}
 use Rattle.com_state.proofs.Frames.{option_cases}
 use Rattle.com_state.proofs.Runs.{option_map_some}
 
--- the history with the entry of a call behind it, and the state after
+-- the history with the entry of a call after it, and the state after
 abbrev with_step : Party × Call → List Entry → Reply × State → List Entry × State
 with_step made history next = (history ++ record { party = made.0; call = made.1; reply = next.0 } ∷ [], next.1)
 

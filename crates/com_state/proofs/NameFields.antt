@@ -7,7 +7,7 @@ use Rattle.std.proofs.lemmas.Grind.{flat_map-append}
 use Rattle.com_text.specs.Name.{field_of, spaces}
 use Rattle.com_cd.specs.Designation.{path_fields}
 
--- twelve characters in place of as many behind a front
+-- twelve characters in place of as many after a front
 written_behind : (front rest value : List ℕ) (n : ℕ) → length front ≡ n → take n (front ++ rest) ++ (value ++ drop 12 (drop n (front ++ rest))) ≡ front ++ (value ++ drop 12 rest)
 written_behind front rest value n e = rw (take_at front rest n e, drop_at front rest n e) refl
 

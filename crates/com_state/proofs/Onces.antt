@@ -1,4 +1,4 @@
--- Numbers, each once, and one more number behind them.
+-- Numbers, each once, and one more number after them.
 use Rattle.std.proofs.Common.{◌≡◌, ℕ, true, false, not, List, [], ◌∷◌, ◌++◌, refl, ap, ◌∙◌, inl, inr}
 use Rattle.std.specs.Prelude.{◌==◌}
 use Rattle.std.specs.List.{filter}
@@ -13,7 +13,7 @@ use Rattle.com_recv.proofs.Members.{Among, among_or_not}
 abbrev others : ℕ → List ℕ → List ℕ
 others n numbers = filter (λ other. not (other == n)) numbers
 
--- a new number comes behind
+-- a new number comes after
 pub once_new : (n : ℕ) (numbers : List ℕ) → (Among n numbers → ⊥) → each_once (numbers ++ n ∷ []) ≡ each_once numbers ++ n ∷ []
 once_new n [] absent = refl
 once_new n (m ∷ numbers) absent =

@@ -22,7 +22,7 @@ texts_more portions portion =
     let text = λ (p : HandedOut). p.text in
     ap concat (map-append text portions (portion ∷ [])) ∙ (concat-append (map text portions) (portion.text ∷ []) ∙ ap (λ last. texts_of portions ++ last) (append-nil portion.text))
 
--- one more that passes, behind others that do
+-- one more that passes, after others that do
 pub all_more : {X : Type 0} (p : X → Bool) (xs : List X) (x : X) → list_all p xs ≡ true → p x ≡ true → list_all p (xs ++ x ∷ []) ≡ true
 all_more {X} p xs x all one = list_all-append p xs (x ∷ []) ∙ and_from (list_all p xs) (list_all p (x ∷ [])) all (and_from (p x) true one refl)
 

@@ -51,7 +51,7 @@ handed_there S name unit area given text kind size no_data node next number ther
     ap (option_and_then (λ unit. option_map (handed_of unit kind size text) (option_and_then (next_in S unit) (designated S.net.tree area)))) number
     ∙ (ap (λ at. option_map (handed_of unit kind size text) (option_and_then (next_in S unit) at)) there ∙ ap (option_map (handed_of unit kind size text)) found)
 
--- where something is found, a portion is given, and else nothing changes
+-- where something is found, a portion is given, and otherwise nothing changes
 changed_next : (S : State) (name : List ℕ) (unit : ℕ) (area : List ℕ) (kind : Kind) (size : ℕ) (no_data : Bool) (node : Node) (found : Option Next)
     → unit_number S.net name ≡ Some unit → designated S.net.tree area ≡ Some node → next_in S unit node ≡ found
     → UnitChanged S name (made.Receive area kind size no_data) (receive_next_in S unit area kind size found)

@@ -121,7 +121,7 @@ done_in S next call area own status other within refusal tells = absurd (other_k
 done_out : (S next : State) (call : Call) (area : List ℕ) (own status : Status) → is_refusal call own ≡ false → 8 ≤ length area → Alone S call status (AreaOut (with_status_out own area), next)
 done_out S next call area own status other within refusal tells = absurd (other_key call own status other refusal (told_out area own status within tells))
 
--- error keys leave the front of an area
+-- error keys leave the beginning of an area
 long_key : (area : List ℕ) (at : ℕ) (destination : Option ℕ) → 8 ≤ length area → 8 ≤ length (keyed area (at, destination))
 long_key area at destination h =
     let front = take (10 + 13 * at) area in

@@ -15,7 +15,7 @@ abbrev pub is_nothing_left : List (List ℕ) → Bool
 is_nothing_left [] = true
 is_nothing_left (piece ∷ pieces) = false
 
--- to drop more than the first part is to drop of what stands behind it
+-- to drop more than the first part is to drop of what comes after it
 drop_behind : (n : ℕ) (xs ys : List ℕ) → length xs ≤ n → drop n (xs ++ ys) ≡ drop (n - length xs) ys
 drop_behind n xs ys h =
     let sum : length xs + (n - length xs) ≡ n = omega arith in
@@ -70,7 +70,7 @@ last_is_last : (end : End) → is_last_key (last_key end) ≡ true
 last_is_last Emi = refl
 last_is_last Egi = refl
 
--- a segment that is given to its end has such a key just where none is behind it
+-- a segment that is given to its end has such a key just where none is after it
 key_is_last : (pieces : List (List ℕ)) (end : End) → is_last_key (key_before pieces end) ≡ is_nothing_left pieces
 key_is_last [] end = last_is_last end
 key_is_last (piece ∷ pieces) end = refl

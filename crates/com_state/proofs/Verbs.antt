@@ -18,7 +18,7 @@ next_in S unit node = next_rest S.net.tree S.incoming unit node
 abbrev pub give_in : State → ℕ → List ℕ → Kind → ℕ → Next → Reply × State
 give_in S unit area kind size next = received S (give S.net.tree S.incoming unit area kind size next)
 
--- what is gone on with is given, and else there is no data
+-- what is gone on with is given, and otherwise there is no data
 abbrev pub receive_next_in : State → ℕ → List ℕ → Kind → ℕ → Option Next → Reply × State
 receive_next_in S unit area kind size found = received S (receive_next S.net.tree S.incoming unit area kind size found)
 

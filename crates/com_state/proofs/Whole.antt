@@ -19,7 +19,7 @@ use Rattle.com_state.specs.State.{State, opening}
 use Rattle.com_state.specs.Steps.{step}
 use Rattle.com_recv.specs.Receiving.{give}
 
--- what there is comes behind
+-- what there is comes after
 abbrev added : {X : Type 0} → List X → Option X → List X
 added xs None = xs
 added xs (Some x) = xs ++ x ∷ []
@@ -131,7 +131,7 @@ all_here arrivals (portion ∷ handed) numbered all =
     let parts = and_parts (is_arrived portion.arrival (length arrivals)) (list_all (λ portion. is_arrived portion.arrival (length arrivals)) handed) all in
     and_from (has_arrived arrivals portion) (list_all (has_arrived arrivals) handed) (arrived_here arrivals portion numbered parts.0) (all_here arrivals handed numbered parts.1)
 
--- every portion comes behind its message, and every message is whole
+-- every portion comes after its message, and every message is whole
 whole : (net : Net) (history : List Entry) → Legal net history → Whole net history
 whole net history legal = record {
   numbered = (accounts_of net history legal.0 legal.1).numbered;

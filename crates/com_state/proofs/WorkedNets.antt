@@ -208,7 +208,7 @@ two_trees_net = record {
   units = echo ∷ [];
 }
 
--- a leaf, a node with two leaves, and a leaf behind it
+-- a leaf, a node with two leaves, and a leaf after it
 abbrev pub uneven_tree : List TreeRow
 uneven_tree =
     inner 1 (codes "TOP") choose.Ordered

@@ -19,7 +19,7 @@ LeadsTo S (entry ∷ entries) last =
 abbrev pub Legal : Net → List Entry → Type 0
 Legal net history = (last : State) × LeadsTo (opening net) history last
 
--- the entry that a step makes, and those of the calls behind it
+-- the entry that a step makes, and those of the calls after it
 abbrev pub entry_before : Party × Call → Reply → List Entry × State → List Entry × State
 entry_before made reply behind =
     (record { party = made.0; call = made.1; reply = reply } ∷ behind.0, behind.1)

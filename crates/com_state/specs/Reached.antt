@@ -23,8 +23,8 @@ pub record KeepsLimits (S : State) : Type 0 where
 
 -- There is a flag for each leaf and for the input of each terminal, and a state for each unit and
 -- each terminal, as a terminal and as a destination; no count is beyond its limit. A unit holds one
--- rest from a leaf at most, and no rest is spent. The messages that wait stand in the order of their
--- arrival numbers, which are those of messages that have arrived.
+-- rest from a leaf at most, and no rest is spent. The messages that wait stand in the order of
+-- their arrival numbers, which are those of messages that have arrived.
 pub record IsConsistent (S : State) : Type 0 where
   pub leaves : length S.leaf_on ≡ length S.net.leaf_on
   pub inputs : length S.input_on ≡ length S.net.terminals

@@ -38,7 +38,7 @@ use Rattle.com_state.specs.State.{State, destinations_of, unit_mode, terminal_mo
 use Rattle.com_state.specs.Answers.{is_ready, received, answered}
 use Rattle.com_state.specs.Switches.{switch_input}
 
--- this reply and state, where the test holds, and else undefined
+-- this reply and state, where the test holds, and otherwise undefined
 abbrev pub next_if : Bool → Reply × State → Option (Reply × State)
 next_if test next = if test then Some next else None
 
@@ -221,7 +221,7 @@ may_finish S terminal finish.Fault = is_feeding (terminal_mode S terminal)
 may_finish S terminal finish.Long = is_feeding (terminal_mode S terminal)
 may_finish S terminal finish.Idle = is_idle S && is_holding (terminal_mode S terminal)
 
--- a message comes in: it gets the next arrival number and goes behind those that wait
+-- a message comes in: it gets the next arrival number and goes after those that wait
 abbrev pub arrived_message : State → ℕ → Moment → RawMessage → List ℕ → Message
 arrived_message S terminal stamp message name = record {
   source = name;
@@ -231,7 +231,7 @@ arrived_message S terminal stamp message name = record {
   end = message.end;
 }
 
--- ARRIVE: the message waits behind all others, and the terminal feeds
+-- ARRIVE: the message waits after all others, and the terminal feeds
 abbrev pub arrive : State → ℕ → List ℕ → Moment → RawMessage → Feed → Reply × State
 arrive S terminal name stamp message feed =
     let here : Waiting = record {

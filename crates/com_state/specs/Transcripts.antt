@@ -22,7 +22,7 @@ sent_by net history =
 abbrev pub sent_to : State → ℕ → Option (List OutMessage)
 sent_to S terminal = transmitted_to S.outgoing terminal
 
--- what a history transmits to a terminal, one message behind another
+-- what a history transmits to a terminal, one message after another
 abbrev pub transcript_of : Net → List Entry → ℕ → List ℕ
 transcript_of net history terminal =
     flat_map rendered_message

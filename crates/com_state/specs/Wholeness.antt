@@ -64,7 +64,8 @@ abbrev pub portions_of : Net → List Entry → ℕ → List HandedOut
 portions_of net history arrival =
     filter (λ portion. portion.arrival == arrival) (all_handed (opening net) history)
 
--- a message that has arrived: its number among all arrivals, the leaf that it waits on, and what it is
+-- a message that has arrived: its number among all arrivals, the leaf that it waits on, and what it
+-- is
 pub record Arrival : Type 0 where
   pub number : ℕ
   pub leaf : ℕ

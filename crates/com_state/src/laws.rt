@@ -53,7 +53,7 @@ ghost use Rattle.com_state.specs.Wholeness.{EveryHistoryIsWhole};
 ghost use Rattle.com_state.specs.Laws.{Keeps, rests_of, is_refusal, is_idle_call, Tells, ChangesStatusAlone};
 
 /// Every step leaves the network; only ARRIVE makes more messages wait; and what is queued for a
-/// terminal is still queued behind it, but for ENABLE OUTPUT.
+/// terminal is still queued after it, except ENABLE OUTPUT.
 pub fn step_keeps()
     ensures { (S next : SystemState) (party : PartyOf) (call : CallOf) (reply : ReplyOf) →
         step S party call ≡ Some (reply, next) → Keeps S call next }
@@ -106,14 +106,14 @@ pub fn others_are_left_by_a_stop()
         begun_for next.outgoing other terminal ≡ begun_for S.outgoing other terminal) }
 {}
 
-/// In every legal history a message goes to one unit, from its front and with nothing left out; what
-/// is missing at the end that unit still holds, or it has stopped. On each leaf messages are taken up
-/// in the order of arrival.
+/// In every legal history a message goes to one unit, from its front and with nothing left out;
+/// what is missing at the end that unit still holds, or it has stopped. On each leaf messages are
+/// taken up in the order of arrival.
 pub fn every_history_is_whole()
     ensures { EveryHistoryIsWhole }
 {}
 
-/// A history is legal exactly where its calls get its replies.
+/// A history is legal exactly if its calls get its replies.
 pub fn shown_is_legal()
     ensures legal { (net : NetOf) (history : List EntryOf) → IsRun net history → Legal net history }
     ensures shown { (net : NetOf) (history : List EntryOf) → Legal net history → IsRun net history }
@@ -156,7 +156,7 @@ pub fn a_run_is_legal()
 {}
 
 /// One call more at the end of a run is one step more, from the state that the run leaves: the
-/// entry goes behind the history. Where it has no step, the calls have no run.
+/// entry goes after the history. Where it has no step, the calls have no run.
 pub fn a_run_goes_on_by_a_step()
     ensures { (net : NetOf) (calls : List (PartyOf × CallOf)) (who : PartyOf) (call : CallOf)
         (history : List EntryOf) (last : SystemState) → run net calls ≡ Some (history, last) →
@@ -188,16 +188,17 @@ pub fn no_call_is_left_at_the_end()
         step S (party.Terminal name) call ≡ None }
 {}
 
-/// What a legal history of well-formed calls leaves is consistent: its lists have the lengths that the
-/// network says, no count is beyond its limit, no rest is spent, no unit holds two rests from one
-/// leaf, and what waits stands in the order of arrival.
+/// What a legal history of well-formed calls leaves is consistent: its lists have the lengths that
+/// the network says, no count is beyond its limit, no rest is spent, no unit holds two rests from
+/// one leaf, and what waits stands in the order of arrival.
 pub fn every_state_reached_is_consistent()
     ensures { (net : NetOf) (history : List EntryOf) (last : SystemState) → IsNet net →
         All (λ entry. IsWellFormed entry.call) history → LeadsTo (opening net) history last →
         IsConsistent last }
 {}
 
-/// Whatever its calls are, no legal history passes the limit of a unit's verbs or of a terminal's arrivals.
+/// Whatever its calls are, no legal history passes the limit of a unit's verbs or of a terminal's
+/// arrivals.
 pub fn no_count_passes_its_limit()
     ensures { (net : NetOf) (history : List EntryOf) (last : SystemState) →
         LeadsTo (opening net) history last → KeepsLimits last }

@@ -1,5 +1,5 @@
-//! The one-thread message control system: its definitions, what holds of every step and history, and
-//! [`State`], a value that does every call.
+//! The one-thread message control system: its definitions, what holds of every step and history,
+//! and [`State`], a value that does every call.
 //!
 //! ```rust
 //! use com_state::State;
@@ -11,8 +11,8 @@
 //! let nothing_can_happen = state.idle();
 //! ```
 //!
-//! A contract sees a `State` as a state of the definitions. A crate above cites these and the laws, and
-//! opens no step:
+//! A contract sees a `State` as a state of the definitions. A crate above cites these and the laws,
+//! and opens no step:
 //!
 //! ```rust
 //! ghost use Rattle.com_state.specs.State.{opening};
@@ -26,15 +26,15 @@
 //! }
 //! ```
 //!
-//! - `step` is what a call is answered and the state that it leaves, `opening` the state of a network
-//!   in which nothing has happened, and `Legal` tells which histories are the system's.
-//! - What comes in is com_recv's `Incoming`, what goes out com_send's `Outgoing`: their definitions are
-//!   the system's.
-//! - [`every_history_is_whole`]: in every legal history a message goes to one unit, from its front and
-//!   with nothing left out; what is missing at the end that unit still holds, or it has stopped; and
-//!   the messages of a leaf are taken up in the order of arrival.
-//! - [`every_state_reached_is_consistent`] and [`entries_tell_of_their_party`] say what is known of a
-//!   state that a legal history leaves.
+//! - `step` is what a call is answered and the state that it leaves, `opening` the state of a
+//!   network in which nothing has happened, and `Legal` tells which histories are the system's.
+//! - What comes in is com_recv's `Incoming`, what goes out com_send's `Outgoing`: their definitions
+//!   are the system's.
+//! - [`every_history_is_whole`]: in every legal history a message goes to one unit, from its front
+//!   and with nothing left out; what is missing at the end that unit still holds, or it has
+//!   stopped; and the messages of a leaf are taken up in the order of arrival.
+//! - [`every_state_reached_is_consistent`] and [`entries_tell_of_their_party`] say what is known of
+//!   a state that a legal history leaves.
 //!
 //! The functions that stand alone do nothing; their contracts are the laws.
 #![tactic(auto)]

@@ -52,7 +52,7 @@ impl Model for State {
 
 impl State {
     /// The state of a network in which nothing has happened. It has a copy of the network. The only
-    /// error is want of memory.
+    /// error is out of memory.
     pub fn open(net: &Net) -> Result<State, AllocError>
         ensures { IfOk result (λ state. state ≡ opening net.now) }
     {
@@ -95,7 +95,7 @@ impl State {
         self.outs.transmitted(terminal)
     }
 
-    /// Does a call that is allowed, and answers its reply. Without memory nothing changes.
+    /// Does a call that is allowed, and answers its reply. If memory runs out, nothing changes.
     pub fn apply(&mut self, party: &Party, call: &Call) -> Result<Reply, AllocError>
         requires may { IsTrue (is_some (step self.old party.now call.now)) }
         requires call { IsWellFormed call.now }

@@ -1,4 +1,4 @@
--- Counted fields: where their colon stands, and that none is the front of another.
+-- Counted fields: where their colon stands, and that none is a prefix of another.
 use Rattle.std.proofs.Common.{◌≡◌, ℕ, zero, suc, ◌+◌, ◌-◌, ◌<◌, ◌≤◌, ◌^◌, false, Some, List, ◌∷◌, ◌++◌, length, get_or, take, drop, refl, sym, ap, ◌∙◌, arith}
 use Rattle.std.specs.Prelude.{decimal, slice_range}
 use Rattle.std.specs.List.{position}
@@ -31,7 +31,7 @@ no_leading_zero : (n : ℕ) → n ≤ 999999 → ¬ (HasLeadingZero (decimal n))
 no_leading_zero zero le h = absurd (omega (arith, h.0, ap length (decimal_digit 0 (omega arith))))
 no_leading_zero (suc n) le h = absurd (omega (arith, h.1, first_decimal (suc n) (omega arith) (small (suc n) le)))
 
--- the first colon of a list is behind the part with none
+-- the first colon of a list is after the part with none
 position-first : (front rest : List ℕ) → ((k : ℕ) → k < length front → is_colon (get_or front k 0) ≡ false) → length front ≤ 6
     → position is_colon (take 7 (front ++ 58 ∷ rest)) ≡ Some (length front)
 position-first front rest none short =
@@ -48,7 +48,7 @@ position-first front rest none short =
 counted-parts : (content rest : List ℕ) → counted_field content ++ rest ≡ decimal (length content) ++ 58 ∷ (content ++ rest)
 counted-parts content rest = append_assoc (decimal (length content)) (58 ∷ content) rest
 
--- where bytes begin with a counted field, their first colon stands behind its count
+-- where bytes begin with a counted field, their first colon comes after its count
 pub position-counted : (bytes content rest : List ℕ) → IsCountable content → bytes ≡ counted_field content ++ rest
     → position is_colon (take 7 bytes) ≡ Some (length (decimal (length content)))
 position-counted bytes content rest few e =
@@ -122,7 +122,7 @@ StandsAt-read bytes colon count found digits few fits =
 same_tail : {x y : ℕ} {xs ys : List ℕ} → x ∷ xs ≡ y ∷ ys → xs ≡ ys
 same_tail e = cc
 
--- no counted field is the front of another
+-- no counted field is a prefix of another
 pub counted_front : (a b x y : List ℕ) → IsCountable a → IsCountable b → counted_field a ++ x ≡ counted_field b ++ y → (a ≡ b) × (x ≡ y)
 counted_front a b x y few_a few_b e =
     let na = length a in

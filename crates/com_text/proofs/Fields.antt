@@ -39,7 +39,7 @@ length-field_of name h =
     let short = length-name name h in
     simp (length-append, length-replicate) (omega arith)
 
--- a name written over the front of twelve spaces makes its field
+-- a name written over the beginning of twelve spaces makes its field
 pub field_of-written : (name : List ℕ) → IsName name → name ++ drop (length name) (spaces 12) ≡ field_of name
 field_of-written name h =
     let short = (length-name name h).1 in
@@ -49,7 +49,7 @@ field_of-written name h =
 pub field_of_injective : (a b : List ℕ) → IsName a → IsName b → field_of a ≡ field_of b → a ≡ b
 field_of_injective a b h k e = sym (before_space-field_of a h) ∙ (ap before_space e ∙ before_space-field_of b k)
 
--- no field is the front of another
+-- no field is a prefix of another
 pub field_of_front : (a b x y : List ℕ) → IsName a → IsName b → field_of a ++ x ≡ field_of b ++ y → (a ≡ b) × (x ≡ y)
 field_of_front a b x y h k e =
     let fa = length-field_of a h in

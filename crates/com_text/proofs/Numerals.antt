@@ -31,7 +31,8 @@ number_room bytes i lt short h =
     let le : length (take i bytes) ≤ 17 = omega (arith, length-take-le i bytes (omega arith)) in
     number-lt (take i bytes) 17 (own_digits.from _ h) le
 
--- a number's digits, with leading zeros: how many they are, that they are digits, and which number they write
+-- a number's digits, with leading zeros: how many they are, that they are digits, and which number
+-- they write
 pub length-in_digits : (n width : ℕ) → length (in_digits n width) ≡ width
 length-in_digits n zero = refl
 length-in_digits n (suc width) =

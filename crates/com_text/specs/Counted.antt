@@ -16,8 +16,8 @@ is_colon byte = byte == 58
 abbrev pub HasLeadingZero : List ℕ → Type 0
 HasLeadingZero digits = (2 ≤ length digits) × (slice_index digits 0 ≡ 48)
 
--- the front of the bytes is a counted field, whose content stands from `from` up to, but not with,
--- `past`
+-- the beginning of the bytes is a counted field, whose content stands from `from` up to, but not
+-- with, `past`
 pub record StandsAt (bytes : List ℕ) (from past : ℕ) : Type 0 where
   pub order : from ≤ past
   pub within : past ≤ length bytes

@@ -1,4 +1,4 @@
-//! Counted fields: bytes behind their number, so that any byte may stand in them.
+//! Counted fields: bytes after their number, so that any byte may stand in them.
 ghost use Rattle.std.specs.Prelude.{◌≡◌, ◌↔◌, ◌≤◌, ◌+◌, ℕ, take, List, ◌++◌, length, decimal, IsTrue, Some, OnOk, OnErr, IfSome};
 ghost use Rattle.std.specs.List.{position};
 ghost use Rattle.com_text.specs.Counted.{counted_field, is_colon, IsCountable, HasLeadingZero, StandsAt};
@@ -12,7 +12,7 @@ pub const MAX_COUNTED: usize = 999_999;
 /// How many digits the number of a counted field has at most.
 const COUNT_DIGITS: usize = 6;
 
-/// Adds a counted field at the end. Without memory nothing changes.
+/// Adds a counted field at the end. If memory runs out, nothing changes.
 pub fn put_counted(out: &mut Rows<u8>, bytes: &[u8]) -> Result<(), AllocError>
     requires { IsCountable bytes.now }
     ensures ok { OnOk result (out.new ≡ out.old ++ counted_field bytes.now) }
@@ -23,8 +23,8 @@ pub fn put_counted(out: &mut Rows<u8>, bytes: &[u8]) -> Result<(), AllocError>
 }
 
 /// The places, from 0, of the first byte and past the last byte of the content of the counted
-/// field at the front. None exactly where no front of the bytes is a counted field: its number is
-/// missing, begins with a zero that is not alone, has more than six digits or no colon behind it,
+/// field at the front. None exactly if no front of the bytes is a counted field: its number is
+/// missing, begins with a zero that is not alone, has more than six digits or no colon after it,
 /// or says more bytes than there are.
 pub fn take_counted(bytes: &[u8]) -> Option<(usize, usize)>
     ensures found { IfSome result (λ found. StandsAt bytes.now found.0 found.1) }

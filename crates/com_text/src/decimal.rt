@@ -34,7 +34,7 @@ pub fn digits_of<const N: usize>(n: u64) -> [u8; N]
     field
 }
 
-/// The number that decimal digits write, leading zeros or not: None exactly where there are no
+/// The number that decimal digits write, leading zeros or not: None exactly if there are no
 /// bytes, more than 18, or one that is no digit.
 pub fn number_of(bytes: &[u8]) -> Option<u64>
     ensures some { IsSome result ↔ IsNumber bytes.now }
@@ -53,7 +53,7 @@ pub fn number_of(bytes: &[u8]) -> Option<u64>
     Some(number)
 }
 
-/// Adds a number in decimal at the end, without leading zeros. Without memory nothing changes.
+/// Adds a number in decimal at the end, without leading zeros. If memory runs out, nothing changes.
 pub fn put_number(out: &mut Rows<u8>, n: u64) -> Result<(), AllocError>
     ensures ok { OnOk result (out.new ≡ out.old ++ decimal n) }
     ensures err { OnErr result (out.new ≡ out.old) }

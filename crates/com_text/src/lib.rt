@@ -11,13 +11,14 @@
 //! assert!(rt; take_counted(line.as_slice()) == Some((2, 6)));
 //! ```
 //!
-//! - [`Text`] and [`Name`] are made exactly of the bytes that are one. `Text::read` names the first byte
-//!   that is none. A [`NamePath`] is a list of one to four names.
-//! - [`digits`] and [`digits_of`] write the digits of a number, and [`number_of`] is the number of 1 to 18
-//!   digits and of nothing else.
-//! - [`take_counted`] finds the content of a counted field exactly where one stands at the front, and
+//! - [`Text`] and [`Name`] are made exactly of the bytes that are one. `Text::read` names the first
+//!   byte that is none. A [`NamePath`] is a list of one to four names.
+//! - [`digits`] and [`digits_of`] write the digits of a number, and [`number_of`] is the number of
+//!   1 to 18 digits and of nothing else.
+//! - [`take_counted`] finds the content of a counted field exactly if one stands at the front, and
 //!   finds again what [`put_counted`] wrote, whatever follows it.
-//! - [`Rows`] is a list that owns its items and grows at its end. Without memory nothing changes.
+//! - [`Rows`] is a list that owns its items and grows at its end. If memory runs out, nothing
+//!   changes.
 #![tactic(auto)]
 
 mod counted;

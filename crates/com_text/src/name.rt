@@ -56,7 +56,7 @@ pub enum Field {
 }
 
 impl Name {
-    /// The name with these characters: None exactly where they are no name.
+    /// The name with these characters: None exactly if they are no name.
     pub fn new(bytes: &[u8]) -> Option<Name>
         ensures some { IsSome result ↔ IsName bytes.now }
         ensures name { IfSome result (λ name. name ≡ bytes.now) }

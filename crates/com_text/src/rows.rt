@@ -26,7 +26,7 @@ impl<T> Rows<T> {
         }
     }
 
-    /// Adds an item at the end. Without memory nothing changes, and the item is handed back.
+    /// Adds an item at the end. If memory runs out, nothing changes, and the item is handed back.
     pub fn push(&mut self, item: T) -> Result<(), (T, AllocError)>
         ensures ok { OnOk result (self.new ≡ self.old ++ item ∷ []) }
         ensures err { OnErr result (self.new ≡ self.old) }
@@ -90,7 +90,7 @@ impl<T: Drop> Rows<T> {
 }
 
 impl Rows<u8> {
-    /// Adds bytes at the end. Without memory nothing changes.
+    /// Adds bytes at the end. If memory runs out, nothing changes.
     pub fn extend_from_slice(&mut self, bytes: &[u8]) -> Result<(), AllocError>
         ensures ok { OnOk result (self.new ≡ self.old ++ bytes.now) }
         ensures err { OnErr result (self.new ≡ self.old) }
@@ -98,7 +98,7 @@ impl Rows<u8> {
         self.items.extend_from_slice(bytes)
     }
 
-    /// Adds three parts at the end. Without memory nothing changes.
+    /// Adds three parts at the end. If memory runs out, nothing changes.
     pub(crate) fn extend_all(
         &mut self,
         first: &[u8],
@@ -117,7 +117,7 @@ impl Rows<u8> {
     }
 }
 
-/// Adds three parts at the end. Without memory some of them may have been added.
+/// Adds three parts at the end. If memory runs out, some of them may have been added.
 fn add_parts(
     items: &mut Vec<u8>,
     first: &[u8],

@@ -44,8 +44,8 @@ impl From<AllocError> for TextError {
 }
 
 impl Text {
-    /// A copy of the bytes, where each is a character of a text. Else the error names the first byte
-    /// that is none. Memory: memory ran out.
+    /// A copy of the bytes, where each is a character of a text. Else the error names the first
+    /// byte that is none. Memory: memory ran out.
     pub fn read(alloc: Global, bytes: &[u8]) -> Result<Text, TextError>
         ensures ok { IfOk result (λ text. text ≡ bytes.now) }
         ensures only_texts { IfOk result (λ text. IsText text) }
@@ -83,7 +83,7 @@ impl Text {
         str::from_utf8(&self.bytes).unwrap()
     }
 
-    /// A second text of the same characters. The only error is want of memory.
+    /// A second text of the same characters. Fails only if memory runs out.
     pub fn copy(&self) -> Result<Text, AllocError>
         ensures { IfOk result (λ text. text ≡ self.now) }
     {

@@ -15,7 +15,7 @@ pub fn call_line(alloc: Global, line: &[u8]) -> Result<String, AllocError> {
     }
 }
 
-/// A call with its parts, behind its party.
+/// A call with its parts, after its party.
 pub fn of_party(alloc: Global, party: &Party, call: &Call) -> Result<String, AllocError> {
     let call = shown(alloc, call)?;
     match party {

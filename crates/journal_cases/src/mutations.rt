@@ -24,7 +24,7 @@ pub fn mutations(alloc: Global, line: &[u8]) -> Result<String, AllocError> {
     format!(in alloc; "{} lines, {refused} refused{others}", lines.len())
 }
 
-/// Whether a script and a journal that have this line behind their header are refused at it.
+/// Whether a script and a journal that have this line after their header are refused at it.
 fn is_refused(alloc: Global, line: &[u8]) -> Result<bool, AllocError> {
     Ok(is_no_call(alloc, line)? && is_no_entry(alloc, line)?)
 }
@@ -45,7 +45,7 @@ fn is_no_entry(alloc: Global, line: &[u8]) -> Result<bool, AllocError> {
     }
 }
 
-/// A header, and a line behind it.
+/// A header, and a line after it.
 fn text_of(alloc: Global, header: &[u8], line: &[u8]) -> Result<Vec<u8>, AllocError> {
     let mut text = Vec::from_slice(alloc, header)?;
     text.extend_from_slice(line)?;
@@ -53,7 +53,7 @@ fn text_of(alloc: Global, header: &[u8], line: &[u8]) -> Result<Vec<u8>, AllocEr
     Ok(text)
 }
 
-/// Whether a fault is that of the line behind the header.
+/// Whether a fault is that of the line after the header.
 fn is_of_line(error: JournalError) -> Result<bool, AllocError> {
     match error {
         JournalError::Refused(fault) => Ok(fault.line == 2 && fault.kind == JournalKind::BadLine),
@@ -130,7 +130,7 @@ impl Changed {
         }
     }
 
-    /// Adds what was passed with these parts behind it.
+    /// Adds what was passed with these parts after it.
     fn add(&mut self, parts: &[&[u8]]) -> Result<(), AllocError> {
         let mut line = Vec::from_slice(self.alloc, &self.passed)?;
         for part in parts {
@@ -140,7 +140,7 @@ impl Changed {
         Ok(())
     }
 
-    /// A space in front and behind, and the other sort of party.
+    /// A space in front and after, and the other sort of party.
     fn add_ends(&mut self, line: &[u8]) -> Result<(), AllocError> {
         self.add(&[b" ", line])?;
         self.add(&[line, b" "])?;

@@ -78,7 +78,7 @@ fn show(message: &OutMessage, into: &mut String) -> Result<(), AllocError> {
     write!(into, "{:?} ", message.end)
 }
 
-/// What a terminal is sent behind some bytes, for the messages that SENDs build.
+/// What a terminal is sent after some bytes, for the messages that SENDs build.
 fn render_all(alloc: Global, words: &mut Words<'_>) -> Result<String, AllocError> {
     let mut sent = Rows::new(alloc);
     sent.extend_from_slice(words.bytes())?;

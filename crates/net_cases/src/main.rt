@@ -1,5 +1,5 @@
 //! Cases of descriptions. Each line of `stdin` defines a piece of a description or reads pieces one
-//! behind the other, and `stdout` has what it is to answer.
+//! after the other, and `stdout` has what it is to answer.
 #![tactic(auto)]
 
 mod networks;

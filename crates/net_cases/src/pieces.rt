@@ -8,7 +8,7 @@ struct Piece {
     text: Vec<u8>,
 }
 
-/// The pieces that were defined, the last behind.
+/// The pieces that were defined, the last after.
 #[derive(Drop)]
 pub struct Pieces {
     alloc: Global,
@@ -34,7 +34,7 @@ impl Pieces {
         String::from_str(self.alloc, "defined")
     }
 
-    /// The pieces of these names, one behind the other, and a comment up to a length. What is no
+    /// The pieces of these names, one after the other, and a comment up to a length. What is no
     /// piece stands for itself.
     pub fn joined(&self, length: usize, names: &[Vec<u8>]) -> Result<Vec<u8>, AllocError> {
         let mut bytes = Vec::new(self.alloc);

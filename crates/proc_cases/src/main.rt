@@ -1,6 +1,6 @@
 //! Cases of Procedure Divisions. Each line of `stdin` is a division: `division` has its source, and
 //! `sentences` the lines of its one paragraph in area B. `repeated` and `paragraphs` make long ones: they have
-//! a line, how many lines of a kind stand behind it, and the lines at the end, each from column 8. `stdout` has
+//! a line, how many lines of a kind come after it, and the lines at the end, each from column 8. `stdout` has
 //! the first fault, or `ok`.
 #![tactic(auto)]
 

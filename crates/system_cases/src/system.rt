@@ -60,7 +60,7 @@ fn answers(alloc: Global, state: &mut State, calls: &[Vec<u8>]) -> Result<String
     Ok(out)
 }
 
-/// How often a call is allowed, of a number of times, behind a call that is made once.
+/// How often a call is allowed, of a number of times, after a call that is made once.
 fn times_allowed(
     alloc: Global,
     state: &mut State,

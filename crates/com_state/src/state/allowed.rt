@@ -35,7 +35,7 @@ use com_events::{Call, EndReason, Party, StopReason};
 use com_msg::Kind;
 
 impl State {
-    /// Whether a call is allowed, which is exactly where the system has a step for it. An unknown
+    /// Whether a call is allowed, which is exactly if the system has a step for it. An unknown
     /// party has no call, and a party has none of the other sort's.
     pub fn may(&self, party: &Party, call: &Call) -> bool
         ensures { result ≡ is_some (step self.now party.now call.now) }
@@ -161,8 +161,8 @@ impl State {
         }
     }
 
-    /// STOP IDLE needs an idle system and a unit that waits or is dormant; for the other reasons the
-    /// unit runs.
+    /// STOP IDLE needs an idle system and a unit that waits or is dormant; for the other reasons
+    /// the unit runs.
     fn may_stop(&self, unit: u32, reason: StopReason) -> bool
         requires { unit < length self.now.units }
         ensures { result ≡ may_stop self.now unit reason }

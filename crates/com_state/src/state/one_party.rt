@@ -152,8 +152,8 @@ impl State {
         self.arrivals + 1
     }
 
-    /// A message comes to wait on a leaf behind all others, and its terminal feeds. Without memory
-    /// nothing changes.
+    /// A message comes to wait on a leaf after all others, and its terminal feeds. If memory runs
+    /// out, nothing changes.
     pub(crate) fn put(
         &mut self,
         terminal: u32,

@@ -12,7 +12,7 @@ use com_text::Name;
 use std::alloc::AllocError;
 
 impl State {
-    /// Does a call of a terminal that is allowed. Without memory nothing changes.
+    /// Does a call of a terminal that is allowed. If memory runs out, nothing changes.
     pub(crate) fn apply_terminal(
         &mut self,
         terminal: u32,
@@ -47,7 +47,7 @@ impl State {
         }
     }
 
-    /// A message comes in: it waits behind all others on the leaf of the terminal's route, and the
+    /// A message comes in: it waits after all others on the leaf of the terminal's route, and the
     /// terminal feeds.
     fn arrive(
         &mut self,

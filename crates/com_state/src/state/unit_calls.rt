@@ -34,7 +34,7 @@ use com_tree::Node;
 use std::alloc::AllocError;
 
 impl State {
-    /// Does a call of a unit that is allowed. Without memory nothing changes.
+    /// Does a call of a unit that is allowed. If memory runs out, nothing changes.
     pub(crate) fn apply_unit(&mut self, unit: u32, call: &Call) -> Result<Reply, AllocError>
         requires unit { unit < length self.old.units }
         requires may { IsTrue (is_some (unit_step self.old unit call.now)) }
@@ -82,7 +82,8 @@ impl State {
         Reply::Started { names }
     }
 
-    /// The names of the leaf that the node of a unit's schedule chooses, where a message waits there.
+    /// The names of the leaf that the node of a unit's schedule chooses, where a message waits
+    /// there.
     fn names_at_start(&self, unit: u32) -> Option<[u8; MAX_NAMES * FIELD_LENGTH]>
         requires { unit < length self.now.units }
         ensures choice { result ≡ option_and_then (λ node.

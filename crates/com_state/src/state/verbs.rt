@@ -65,7 +65,7 @@ impl State {
         !no_data && designated(&self.net.tree, area).is_some() && !self.is_ready(unit, area)
     }
 
-    /// RECEIVE of what there is. Without memory nothing changes.
+    /// RECEIVE of what there is. If memory runs out, nothing changes.
     pub(crate) fn take(
         &mut self,
         unit: u32,
@@ -93,7 +93,7 @@ impl State {
         area
     }
 
-    /// SEND. Without memory nothing changes.
+    /// SEND. If memory runs out, nothing changes.
     pub(crate) fn send_part(
         &mut self,
         unit: u32,
@@ -113,7 +113,7 @@ impl State {
         Ok(output_told(area))
     }
 
-    /// ENABLE and DISABLE OUTPUT. Without memory nothing changes.
+    /// ENABLE and DISABLE OUTPUT. If memory runs out, nothing changes.
     pub(crate) fn switch_destinations(
         &mut self,
         on: bool,
@@ -147,8 +147,9 @@ impl State {
         }
     }
 
-    /// ENABLE and DISABLE INPUT without TERMINAL: the leaves under the node that the area designates.
-    /// 20 where it designates none, 40 where the key is not the password of the node's tree.
+    /// ENABLE and DISABLE INPUT without TERMINAL: the leaves under the node that the area
+    /// designates. 20 where it designates none, 40 where the key is not the password of the node's
+    /// tree.
     fn switch_leaves(&mut self, on: bool, area: InArea, key: &Text) -> Reply
         ensures switched { (result, self.new) ≡ switch_input self.old on false area key.now }
         ensures reply { IsReplyTo (made.SwitchInput on false area key.now) result }
@@ -164,8 +165,8 @@ impl State {
         told(area, Status::S00)
     }
 
-    /// ENABLE and DISABLE INPUT TERMINAL: the terminal that SYMBOLIC SOURCE names. 20 where there is
-    /// none, 40 where the key is not its password.
+    /// ENABLE and DISABLE INPUT TERMINAL: the terminal that SYMBOLIC SOURCE names. 20 where there
+    /// is none, 40 where the key is not its password.
     fn switch_terminal(&mut self, on: bool, area: InArea, key: &Text) -> Reply
         ensures switched { (result, self.new) ≡ switch_input self.old on true area key.now }
         ensures reply { IsReplyTo (made.SwitchInput on true area key.now) result }

@@ -13,7 +13,7 @@ use Rattle.com_net.specs.Sound.{is_name_path}
 use Rattle.com_net.proofs.Arrays.{named_at}
 use Rattle.com_net.proofs.values.path_of.Goals as goal
 
--- what stands at a place behind the first name
+-- what stands at a place after the first name
 record IsBehind (names : List Value) (at : ℕ) (value : Value) : Type 0 where
   within : at + 1 < length names
   is : value ≡ get_or names (at + 1) value

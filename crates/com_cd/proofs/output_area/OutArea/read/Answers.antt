@@ -5,7 +5,7 @@ use Rattle.com_text.specs.Name.{spaces}
 use Rattle.com_cd.proofs.Outputs.{Holds, held}
 use Rattle.com_cd.proofs.output_area.OutArea.read.Goals as goal
 
--- an area that is copied over the front of spaces is held
+-- an area that is copied over the beginning of spaces is held
 held_copy : (area copied : List ℕ) (n : ℕ) → copied ≡ area → 1 ≤ n → n ≤ 8 → length area ≡ 10 + 13 * n → IsText area
     → Holds (copied ++ drop (length area) (spaces 114)) n
 held_copy area copied n same some few long text =

@@ -5,7 +5,8 @@ use Rattle.com_text.specs.Text.{IsText}
 use Rattle.com_cd.specs.Designation.{path_fields}
 use Rattle.com_state.proofs.state.unit_calls.fields_of.Given as goal
 
--- the fields of the names before this one, and spaces behind them, a text; each is twelve characters wide
+-- the fields of the names before this one, and spaces after them, a text; each is twelve characters
+-- wide
 abbrev pub invariant-loop-level : goal.invariant-loop-level
 invariant-loop-level l = record {
   fields : l.fields ≡ path_fields (take l.level l.path);

@@ -6,7 +6,7 @@ use Rattle.com_text.specs.Name.{IsName, field_of, is_character, before_space}
 use Rattle.com_text.proofs.Fields.{after_name, field_of-before, before_space-field_of, length-name}
 use Rattle.com_text.proofs.name.Name.of_field.Goals as goal
 
--- the front of a name's field, cut before the first space, is the name
+-- the beginning of a name's field, cut before the first space, is the name
 front-name : (name field front : List ℕ) (n : ℕ) → IsName name → field ≡ field_of name → n ≡ prefix_len is_character field → front ≡ take n field → front ≡ name
 front-name name field front n h e place cut =
     rw (cut, place) (ap before_space e ∙ before_space-field_of name h)

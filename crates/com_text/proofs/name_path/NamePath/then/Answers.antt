@@ -3,7 +3,7 @@ use Rattle.std.proofs.lemmas.Grind.{common_steps}
 use Rattle.com_text.specs.Name.{filled_path}
 use Rattle.com_text.proofs.name_path.NamePath.then.Goals as goal
 
--- a path stays filled up with its first name where the name behind it is written
+-- a path stays filled up with its first name where the name after it is written
 filled_path-set : (names : List (List ℕ)) (count : ℕ) (next : List ℕ) → 1 ≤ count → count < 4 → length names ≡ 4
     → names ≡ filled_path (take count names) → set names count next ≡ filled_path (take (count + 1) (set names count next))
 filled_path-set (a ∷ b ∷ c ∷ d ∷ []) (suc zero) next _ _ _ h = cc
