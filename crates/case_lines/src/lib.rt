@@ -42,11 +42,11 @@ pub use words::{Words, words_of};
 /// What answers the cases of a table, one after another. What it keeps from one case to the next is
 /// its own.
 pub trait Cases {
-    /// What the call of this name answers to the words after it.
+    /// Returns what the call of this name answers to the words after it.
     fn answer(&mut self, call: &[u8], words: &mut Words<'_>) -> Result<String, AllocError>;
 }
 
-/// What stands for a call that a program does not know.
+/// Returns what stands for a call that a program does not know.
 pub fn unknown_call(alloc: Global) -> Result<String, AllocError> {
     String::from_str(alloc, "?")
 }

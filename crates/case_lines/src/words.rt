@@ -11,12 +11,12 @@ pub struct Words<'a> {
 }
 
 impl<'a> Words<'a> {
-    /// All of these words.
+    /// Returns all of these words.
     pub fn new(words: &'a [Vec<u8>]) -> Words<'a> {
         Words { left: words }
     }
 
-    /// The bytes of the next word, and none where no word is left.
+    /// Returns the bytes of the next word, and none where no word is left.
     pub fn bytes(&mut self) -> &'a [u8] {
         let Some((word, left)) = self.left.split_first() else {
             return b"";
@@ -25,7 +25,7 @@ impl<'a> Words<'a> {
         word.as_slice()
     }
 
-    /// The number that the next word writes in decimal, and 0 where it writes none.
+    /// Returns the number that the next word writes in decimal, and 0 where it writes none.
     pub fn number(&mut self) -> u64 {
         match str::from_utf8(self.bytes()) {
             Ok(digits) => digits.parse().unwrap_or(0),
@@ -33,17 +33,17 @@ impl<'a> Words<'a> {
         }
     }
 
-    /// How many words are left.
+    /// Returns how many words are left.
     pub fn len(&self) -> usize {
         self.left.len()
     }
 
-    /// Whether no word is left.
+    /// Returns whether no word is left.
     pub fn is_empty(&self) -> bool {
         self.left.is_empty()
     }
 
-    /// The words that are left.
+    /// Returns the words that are left.
     pub fn rest(&mut self) -> &'a [Vec<u8>] {
         let rest = self.left;
         self.left = &[];
@@ -51,9 +51,9 @@ impl<'a> Words<'a> {
     }
 }
 
-/// The words of a line, with spaces between them. A word in quotes may have any byte: a quote and a
-/// backslash come after a backslash, and `\n`, `\r`, `\t` and `\x` with two hexadecimal digits are
-/// single bytes.
+/// Returns the words of a line, with spaces between them. A word in quotes may have any byte: a
+/// quote and a backslash come after a backslash, and `\n`, `\r`, `\t` and `\x` with two hexadecimal
+/// digits are single bytes.
 pub fn words_of(alloc: Global, line: &str) -> Result<Vec<Vec<u8>>, AllocError> {
     let mut words = Vec::new(alloc);
     let mut left = line.as_bytes();
@@ -69,7 +69,7 @@ pub fn words_of(alloc: Global, line: &str) -> Result<Vec<Vec<u8>>, AllocError> {
     Ok(words)
 }
 
-/// The first word, and what comes after it.
+/// Returns the first word, and what comes after it.
 fn first_word(alloc: Global, line: &[u8]) -> Result<(Vec<u8>, &[u8]), AllocError> {
     if let [b'"', quoted @ ..] = line {
         return quoted_word(alloc, quoted);
@@ -79,7 +79,8 @@ fn first_word(alloc: Global, line: &[u8]) -> Result<(Vec<u8>, &[u8]), AllocError
     Ok((Vec::from_slice(alloc, word)?, behind))
 }
 
-/// The word whose opening quote stands before these bytes, and what comes after its closing one.
+/// Returns the word whose opening quote stands before these bytes, and what comes after its closing
+/// one.
 fn quoted_word(alloc: Global, quoted: &[u8]) -> Result<(Vec<u8>, &[u8]), AllocError> {
     let mut word = Vec::new(alloc);
     let mut left = quoted;
@@ -100,7 +101,7 @@ fn quoted_word(alloc: Global, quoted: &[u8]) -> Result<(Vec<u8>, &[u8]), AllocEr
     Ok((word, left))
 }
 
-/// The byte that a letter after a backslash stands for.
+/// Returns the byte that a letter after a backslash stands for.
 fn escaped(letter: u8) -> u8 {
     match letter {
         b'n' => b'\n',
@@ -110,7 +111,7 @@ fn escaped(letter: u8) -> u8 {
     }
 }
 
-/// The value of a hexadecimal digit, and 0 of another byte.
+/// Returns the value of a hexadecimal digit, and 0 of another byte.
 fn hex_digit(digit: u8) -> u8
     ensures { result < 16 }
 {

@@ -1,4 +1,4 @@
--- What stands at the beginning of the rest of a line.
+-- What is at the beginning of the rest of a line.
 use Rattle.std.specs.Prelude.{ℕ, ◌≤◌, ◌+◌, ◌-◌, Bool, true, false, not, ◌&&◌, ◌||◌, ◌==◌, nat_le, if◌then◌else◌, List, length, slice_index, take, drop, take_while, Option, Some, None, codes, bytes_eq}
 use Rattle.std.specs.List.{list_all, list_any}
 use Rattle.com_text.specs.Name.{is_letter, is_digit, is_hyphen}

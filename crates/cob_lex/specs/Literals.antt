@@ -3,7 +3,7 @@ use Rattle.std.specs.Prelude.{ℕ, ◌+◌, Bool, ◌&&◌, nat_le, if◌then◌
 use Rattle.std.specs.Option.{option_map}
 use Rattle.cob_lex.specs.Characters.{is_quote}
 
--- how many bytes stand before the closing quotation mark: two together are none
+-- how many bytes stand before the closing quotation mark: two together are not one
 abbrev pub closing : List ℕ → Option ℕ
 closing [] = None
 closing (byte ∷ []) = if is_quote byte then Some 0 else None

@@ -2,28 +2,28 @@
 ghost use Rattle.std.specs.Prelude.{◌≡◌, take_while};
 ghost use Rattle.cob_lex.specs.Characters.{is_word_byte, is_no_space, is_separator, is_spacing, space_next, without_last, is_return};
 
-/// Whether a byte is a letter A to Z, a digit or a hyphen.
+/// Returns whether a byte is a letter A to Z, a digit or a hyphen.
 pub(crate) fn is_word_byte(byte: u8) -> bool
     ensures { result ≡ is_word_byte byte }
 {
     matches!(byte, b'A'..=b'Z' | b'0'..=b'9' | b'-')
 }
 
-/// Whether a space or the end of the line comes next.
+/// Returns whether a space or the end of the line comes next.
 pub(crate) fn space_next(rest: &[u8]) -> bool
     ensures { result ≡ space_next rest.now }
 {
     matches!(rest, [] | [b' ', ..])
 }
 
-/// Whether a byte, with the rest after it, only stands between tokens.
+/// Returns whether a byte, with the rest after it, only stands between tokens.
 pub(crate) fn is_spacing(byte: u8, rest: &[u8]) -> bool
     ensures { result ≡ is_spacing byte rest.now }
 {
     byte == b' ' || matches!(byte, b',' | b';') && space_next(rest)
 }
 
-/// The longest run of letters, digits and hyphens at the front.
+/// Returns the longest run of letters, digits and hyphens at the front.
 pub(crate) fn word_run(bytes: &[u8]) -> &[u8]
     ensures { result.now ≡ take_while is_word_byte bytes.now }
 {
@@ -34,7 +34,7 @@ pub(crate) fn word_run(bytes: &[u8]) -> &[u8]
     &bytes[..length]
 }
 
-/// The run up to a space or the end of the line.
+/// Returns the run up to a space or the end of the line.
 pub(crate) fn run_to_space(bytes: &[u8]) -> &[u8]
     ensures { result.now ≡ take_while is_no_space bytes.now }
 {
@@ -45,7 +45,7 @@ pub(crate) fn run_to_space(bytes: &[u8]) -> &[u8]
     &bytes[..length]
 }
 
-/// The bytes without a CR at their end.
+/// Returns the bytes without a CR at their end.
 pub(crate) fn without_return(bytes: &[u8]) -> &[u8]
     ensures { result.now ≡ without_last is_return bytes.now }
 {
@@ -55,7 +55,7 @@ pub(crate) fn without_return(bytes: &[u8]) -> &[u8]
     }
 }
 
-/// The bytes without a period, comma or semicolon at their end.
+/// Returns the bytes without a period, comma or semicolon at their end.
 pub(crate) fn without_separator(bytes: &[u8]) -> &[u8]
     ensures { result.now ≡ without_last is_separator bytes.now }
 {

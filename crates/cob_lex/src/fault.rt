@@ -2,7 +2,7 @@
 use std::alloc::{AllocError, AllocFailed};
 use thiserror::Error;
 
-/// The kinds of fault of a source, in the order in which they are told where two stand at one
+/// The kinds of fault of a source, in the order in which they are reported if two are at one
 /// place. `lex` answers `BadCharacter`, `BadColumn` and `BadWord`, and the readers of divisions
 /// `BadColumn` and the others but `UnknownName`, `LeavesRange` and `PerformsItself`, which no code
 /// answers yet.

@@ -1,4 +1,4 @@
-//! What stands at the beginning of the rest of a line.
+//! What is at the beginning of the rest of a line.
 ghost use Rattle.std.specs.Prelude.{◌≡◌, ◌+◌, ◌<◌, ◌≤◌, length};
 ghost use Rattle.cob_lex.specs.Fronts.{FitsIn, awaited_behind, front_of, is_awaited_is, literal_front, may_be_picture, picture_run, plain_front, run_front, sign_kind};
 ghost use Rattle.cob_lex.specs.Literals.{closing};
@@ -21,7 +21,7 @@ pub(crate) enum Awaited {
     Picture,
 }
 
-/// What stands at the beginning of the rest of a line.
+/// What is at the beginning of the rest of a line.
 #[derive(Clone, Copy, Debug)]
 pub(crate) enum Front {
     /// A space, or a comma or semicolon that separates like one.
@@ -32,7 +32,7 @@ pub(crate) enum Front {
     Fault(SourceKind),
 }
 
-/// What stands at the beginning of the rest of a line.
+/// Returns what is at the beginning of the rest of a line.
 #[tactic(auto, unfolding(crate::specs::Fronts::front_of))]
 pub(crate) fn front_of(awaited: Awaited, bytes: &[u8]) -> Front
     requires not_empty { 1 ≤ length bytes.now }
@@ -55,7 +55,7 @@ pub(crate) fn front_of(awaited: Awaited, bytes: &[u8]) -> Front
     }
 }
 
-/// What is awaited after a token.
+/// Returns what is awaited after a token.
 pub(crate) fn awaited_behind(awaited: Awaited, kind: TokenKind, text: &[u8]) -> Awaited
     ensures { result ≡ awaited_behind awaited kind text.now }
 {
@@ -66,21 +66,21 @@ pub(crate) fn awaited_behind(awaited: Awaited, kind: TokenKind, text: &[u8]) -> 
     }
 }
 
-/// Whether a picture may come.
+/// Returns whether a picture may come.
 fn may_be_picture(awaited: Awaited) -> bool
     ensures { result ≡ may_be_picture awaited }
 {
     matches!(awaited, Awaited::IsOrPicture | Awaited::Picture)
 }
 
-/// Whether a text is IS, where that may come before a picture.
+/// Returns whether a text is IS, where that may come before a picture.
 fn is_awaited_is(awaited: Awaited, text: &[u8]) -> bool
     ensures { result ≡ is_awaited_is awaited text.now }
 {
     matches!(awaited, Awaited::IsOrPicture) && is_is(text)
 }
 
-/// The run up to a space or the end of the line, less one last period, comma or semicolon.
+/// Returns the run up to a space or the end of the line, less one last period, comma or semicolon.
 fn picture_run(bytes: &[u8]) -> &[u8]
     ensures run { result.now ≡ picture_run bytes.now }
     ensures within { length result.now ≤ length bytes.now }
@@ -88,7 +88,7 @@ fn picture_run(bytes: &[u8]) -> &[u8]
     without_separator(run_to_space(bytes))
 }
 
-/// What stands at the beginning of the rest of a line, where it is no picture.
+/// Returns what is at the beginning of the rest of a line, where it is no picture.
 fn plain_front(bytes: &[u8]) -> Front
     requires not_empty { 1 ≤ length bytes.now }
     requires in_line { length bytes.now ≤ 72 }
@@ -111,7 +111,7 @@ fn plain_front(bytes: &[u8]) -> Front
     }
 }
 
-/// A word or a number: a longest run of letters, digits and hyphens.
+/// Returns a word or a number: a longest run of letters, digits and hyphens.
 fn run_front(run: &[u8]) -> Front
     ensures { result ≡ run_front run.now }
 {
@@ -127,8 +127,8 @@ fn run_front(run: &[u8]) -> Front
     }
 }
 
-/// A literal, by the bytes after its opening quotation mark. It may have 120 characters, which is
-/// more than a line holds.
+/// Returns a literal, by the bytes after its opening quotation mark. It may have 120 characters,
+/// which is more than a line holds.
 fn literal_front(rest: &[u8]) -> Front
     requires in_line { length rest.now < 72 }
     ensures front { result ≡ literal_front rest.now (closing rest.now) }
@@ -144,7 +144,7 @@ fn literal_front(rest: &[u8]) -> Front
     }
 }
 
-/// The token of one character, where there is one.
+/// Returns the token of one character, where there is one.
 fn sign_kind(byte: u8, rest: &[u8]) -> Option<TokenKind>
     ensures { result ≡ sign_kind byte rest.now }
 {

@@ -17,8 +17,8 @@ use std::alloc::Global;
 /// How many bytes a source has at most.
 pub const MAX_SOURCE: usize = 1_048_576;
 
-/// The tokens of a source of at most [`MAX_SOURCE`] bytes, or its first fault. Memory: memory ran
-/// out.
+/// Returns the tokens of a source of at most [`MAX_SOURCE`] bytes, or its first fault. Memory:
+/// memory ran out.
 pub fn lex(alloc: Global, bytes: &[u8]) -> Result<Rows<Token>, SourceError>
     requires { length bytes.now ≤ MAX_SOURCE }
     ensures tokens { IfOk result (λ tokens. tokens_of bytes.now ≡ Ok tokens) }
@@ -117,7 +117,7 @@ fn take_front(
     }
 }
 
-/// The token of these bytes.
+/// Returns the token of these bytes.
 fn read_token(
     alloc: Global,
     place: Place,
@@ -148,7 +148,7 @@ fn read_token(
     })
 }
 
-/// The refusal of a source for a fault so many bytes after the first byte of its line.
+/// Returns the refusal of a source for a fault so many bytes after the first byte of its line.
 fn refusal(place: Place, at: usize, kind: SourceKind) -> SourceError
     requires { at ≤ 72 }
     ensures { result ≡ SourceError.Refused (fault_at place at kind) }

@@ -5,7 +5,7 @@ ghost use Rattle.cob_lex.specs.Lines.{IsFirstLine, begins_paragraph, behind_spac
 use crate::characters::{is_spacing, space_next, without_return, word_run};
 use crate::words::heads_comment;
 
-/// Where a line stands in the source.
+/// Where a line is in the source.
 #[derive(Clone, Copy, Debug)]
 pub(crate) struct Place {
     /// The line's number, from 1.
@@ -36,7 +36,7 @@ const READ_COLUMNS: usize = 72;
 /// How many columns area A has.
 const AREA_A: usize = 4;
 
-/// The first line of bytes, without its end, and how many bytes it has with it.
+/// Returns the first line of bytes, without its end, and how many bytes it has with it.
 pub(crate) fn first_line(bytes: &[u8]) -> (&[u8], usize)
     requires { 1 ≤ length bytes.now }
     ensures first { IsFirstLine bytes.now result.0.now result.1 }
@@ -50,7 +50,7 @@ pub(crate) fn first_line(bytes: &[u8]) -> (&[u8], usize)
     }
 }
 
-/// What a line is, where it may come after a heading of a comment-entry.
+/// Returns what a line is, where it may come after a heading of a comment-entry.
 pub(crate) fn line_kind(in_paragraph: bool, line: &[u8]) -> LineKind
     ensures { result ≡ line_kind in_paragraph line.now }
 {
@@ -64,7 +64,7 @@ pub(crate) fn line_kind(in_paragraph: bool, line: &[u8]) -> LineKind
     }
 }
 
-/// Whether a comment-entry goes on after a line.
+/// Returns whether a comment-entry goes on after a line.
 pub(crate) fn paragraph_behind(in_paragraph: bool, kind: LineKind) -> bool
     ensures { result ≡ paragraph_behind in_paragraph kind }
 {
@@ -84,7 +84,7 @@ pub(crate) fn text_of(line: &[u8]) -> &[u8]
     &read[TEXT_START.min(read.len())..]
 }
 
-/// What a line with a space in column 7 is, by its columns 8 to 72.
+/// Returns what a line with a space in column 7 is, by its columns 8 to 72.
 fn text_kind(in_paragraph: bool, text: &[u8]) -> LineKind
     ensures { result ≡ text_kind in_paragraph text.now }
 {
@@ -97,15 +97,15 @@ fn text_kind(in_paragraph: bool, text: &[u8]) -> LineKind
     }
 }
 
-/// Whether columns 8 to 11 hold spaces alone.
+/// Returns whether columns 8 to 11 hold spaces alone.
 fn is_area_a_blank(text: &[u8]) -> bool
     ensures { result ≡ is_area_a_blank text.now }
 {
     text.iter().take(AREA_A).all(|byte| *byte == b' ')
 }
 
-/// Whether a text begins, in area A, with a word that heads a comment-entry, and its next token
-/// is a period.
+/// Returns whether a text begins, in area A, with a word that heads a comment-entry, and its next
+/// token is a period.
 fn begins_paragraph(text: &[u8]) -> bool
     ensures { result ≡ begins_paragraph text.now }
 {
@@ -113,7 +113,8 @@ fn begins_paragraph(text: &[u8]) -> bool
     text.len() - rest.len() < AREA_A && is_comment_heading(rest)
 }
 
-/// Whether a rest begins with a word that heads a comment-entry, and the next token is a period.
+/// Returns whether a rest begins with a word that heads a comment-entry, and the next token is a
+/// period.
 fn is_comment_heading(rest: &[u8]) -> bool
     ensures { result ≡ is_comment_heading rest.now }
 {
@@ -121,7 +122,7 @@ fn is_comment_heading(rest: &[u8]) -> bool
     heads_comment(word) && period_next(behind_spacing(&rest[word.len()..]))
 }
 
-/// What is left after spaces, and commas and semicolons that are like one.
+/// Returns what is left after spaces, and commas and semicolons that are like one.
 fn behind_spacing(bytes: &[u8]) -> &[u8]
     ensures behind { result.now ≡ behind_spacing bytes.now }
     ensures within { length result.now ≤ length bytes.now }
@@ -136,7 +137,7 @@ fn behind_spacing(bytes: &[u8]) -> &[u8]
     rest
 }
 
-/// Whether a separator period comes next.
+/// Returns whether a separator period comes next.
 fn period_next(rest: &[u8]) -> bool
     ensures { result ≡ period_next rest.now }
 {

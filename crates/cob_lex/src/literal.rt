@@ -2,7 +2,7 @@
 ghost use Rattle.std.specs.Prelude.{◌≡◌, ◌<◌, IfSome, length};
 ghost use Rattle.cob_lex.specs.Literals.{closing};
 
-/// How many bytes stand before the closing quotation mark: two together are none.
+/// Returns how many bytes stand before the closing quotation mark: two together are not one.
 pub(crate) fn closing(bytes: &[u8]) -> Option<usize>
     ensures closing { result ≡ closing bytes.now }
     ensures within { IfSome result (λ inside. inside < length bytes.now) }

@@ -10,42 +10,42 @@ use com_text::MAX_DIGITS;
 /// The characters that a word may have.
 const MAX_WORD: usize = 30;
 
-/// Whether a run of letters, digits and hyphens is a word.
+/// Returns whether a run of letters, digits and hyphens is a word.
 pub(crate) fn is_word(run: &[u8]) -> bool
     ensures { result ≡ is_word run.now }
 {
     has_letter(run) && run.len() <= MAX_WORD && is_hyphen_free(run)
 }
 
-/// Whether a run is a number.
+/// Returns whether a run is a number.
 pub(crate) fn is_number(run: &[u8]) -> bool
     ensures { result ≡ is_number run.now }
 {
     has_digits(run) && run.len() <= MAX_DIGITS
 }
 
-/// Whether there is a letter in a run.
+/// Returns whether there is a letter in a run.
 fn has_letter(run: &[u8]) -> bool
     ensures { result ≡ list_any is_letter run.now }
 {
     run.iter().any(|byte| byte.is_ascii_uppercase())
 }
 
-/// Whether a run has digits alone.
+/// Returns whether a run has digits alone.
 fn has_digits(run: &[u8]) -> bool
     ensures { result ≡ list_all is_digit run.now }
 {
     run.iter().all(|byte| byte.is_ascii_digit())
 }
 
-/// Whether a word is PIC or PICTURE.
+/// Returns whether a word is PIC or PICTURE.
 pub(crate) fn is_picture_word(word: &[u8]) -> bool
     ensures { result ≡ is_picture_word word.now }
 {
     word == b"PIC".as_slice() || word == b"PICTURE".as_slice()
 }
 
-/// Whether a word heads a comment-entry.
+/// Returns whether a word heads a comment-entry.
 pub(crate) fn heads_comment(word: &[u8]) -> bool
     ensures { result ≡ heads_comment word.now }
 {
@@ -56,14 +56,14 @@ pub(crate) fn heads_comment(word: &[u8]) -> bool
         || word == b"SECURITY".as_slice()
 }
 
-/// Whether a run neither begins nor ends with a hyphen.
+/// Returns whether a run neither begins nor ends with a hyphen.
 fn is_hyphen_free(run: &[u8]) -> bool
     ensures { result ≡ is_hyphen_free run.now }
 {
     !matches!(run, [b'-', ..] | [.., b'-'])
 }
 
-/// Whether a word is IS.
+/// Returns whether a word is IS.
 pub(crate) fn is_is(word: &[u8]) -> bool
     ensures { result ≡ bytes_eq word.now (codes "IS") }
 {

@@ -10,7 +10,7 @@ use cob_lex::{Token, TokenKind};
 use com_text::Rows;
 use std::alloc::Global;
 
-/// How two operands compare, by a sign or by words.
+/// Returns how two operands compare, by a sign or by words.
 #[tactic(auto, unfolding(crate::specs::PartReaders::relation))]
 fn take_relation(tokens: &[Token]) -> Result<(Relation, &[Token]), Stop>
     ensures gives { Gives (λ x. (x.0, x.1.now)) result (relation tokens.now) }
@@ -40,7 +40,7 @@ fn take_relation(tokens: &[Token]) -> Result<(Relation, &[Token]), Stop>
     Ok((Relation::Less, skip_word(rest, b"THAN")))
 }
 
-/// What an operand is compared with.
+/// Returns what an operand is compared with.
 #[tactic(auto, unfolding(crate::specs::PartReaders::compared))]
 fn take_compared(
     alloc: Global,
@@ -80,7 +80,7 @@ fn take_tested(
     take_compared(alloc, Operand::Item(item), denied, tokens)
 }
 
-/// A simple condition.
+/// Returns a simple condition.
 #[tactic(auto, unfolding(crate::specs::PartReaders::simple, crate::specs::PartReaders::perhaps_denied))]
 fn take_simple(alloc: Global, tokens: &[Token]) -> Result<(Simple, &[Token]), Stop>
     ensures gives { Gives (λ x. (x.0, x.1.now)) result (simple tokens.now) }
@@ -98,7 +98,7 @@ fn take_simple(alloc: Global, tokens: &[Token]) -> Result<(Simple, &[Token]), St
     take_compared(alloc, left, denied, skip_word(rest, b"NOT"))
 }
 
-/// A further simple condition, after a word.
+/// Returns a further simple condition, after a word.
 #[tactic(auto, unfolding(crate::specs::PartReaders::joined_part))]
 fn take_joined_part<'a>(
     alloc: Global,
@@ -112,7 +112,7 @@ fn take_joined_part<'a>(
     take_simple(alloc, rest)
 }
 
-/// The first simple condition, and those after further words.
+/// Returns the first simple condition, and those after further words.
 #[tactic(auto, unfolding(crate::specs::PartReaders::joined))]
 fn take_joined<'a>(
     alloc: Global,
@@ -134,7 +134,7 @@ fn take_joined<'a>(
     Ok((Rows::of_vec(parts), rest))
 }
 
-/// A condition.
+/// Returns a condition.
 #[tactic(auto, unfolding(crate::specs::PartReaders::condition))]
 pub(crate) fn take_condition(alloc: Global, tokens: &[Token]) -> Result<(Condition, &[Token]), Stop>
     ensures gives { Gives (λ x. (x.0, x.1.now)) result (condition tokens.now) }

@@ -14,14 +14,14 @@ use cob_forms::{fault_at, first_of, in_area_a, is_kind, is_name, is_word, noted}
 use cob_lex::{SourceFault, SourceKind, Token, TokenKind};
 use std::alloc::{AllocError, Global};
 
-/// Whether a token names a paragraph, by the one before it.
+/// Returns whether a token names a paragraph, by the one before it.
 fn names_paragraph(before: &Token, token: &Token) -> bool
     ensures { result ≡ names_paragraph (Some before.now) token.now }
 {
     is_kind(before, TokenKind::Period) && is_name(token)
 }
 
-/// Whether a token begins where it may, by the one before it.
+/// Returns whether a token begins where it may, by the one before it.
 fn stands_well(before: &Token, token: &Token) -> bool
     ensures { result ≡ stands_well (Some before.now) token.now }
 {
@@ -31,7 +31,7 @@ fn stands_well(before: &Token, token: &Token) -> bool
     before.line == token.line || !in_area_a(token)
 }
 
-/// The fault of the token that comes next, where it is in the wrong area.
+/// Returns the fault of the token that comes next, where it is in the wrong area.
 fn column_fault_behind(before: &Token, behind: &[Token]) -> Option<SourceFault>
     ensures { result ≡ first (column_behind before.now behind.now) }
 {
@@ -39,7 +39,7 @@ fn column_fault_behind(before: &Token, behind: &[Token]) -> Option<SourceFault>
     noted(!stands_well(before, token), SourceKind::BadColumn, token)
 }
 
-/// The first token in the wrong area.
+/// Returns the first token in the wrong area.
 fn first_bad_column(tokens: &[Token]) -> Option<SourceFault>
     ensures { result ≡ first (bad_columns None tokens.now) }
 {
@@ -69,7 +69,7 @@ fn push_name<'a>(
     Ok(())
 }
 
-/// The tokens that name paragraphs.
+/// Returns the tokens that name paragraphs.
 fn paragraph_names(alloc: Global, tokens: &[Token]) -> Result<Vec<&Token>, AllocError>
     ensures { IfOk result (λ names. map (λ t. t.now) names.items ≡ paragraph_names None tokens.now) }
 {
@@ -82,7 +82,7 @@ fn paragraph_names(alloc: Global, tokens: &[Token]) -> Result<Vec<&Token>, Alloc
     Ok(names)
 }
 
-/// Whether a name is among some.
+/// Returns whether a name is among some.
 fn is_among(name: &Token, names: &[&Token]) -> bool
     ensures { result ≡ list_any (λ other. bytes_eq name.now.text other.now.text) names.now }
 {
@@ -91,7 +91,7 @@ fn is_among(name: &Token, names: &[&Token]) -> bool
         .any(|other| name.text.as_str() == other.text.as_str())
 }
 
-/// The first paragraph whose name an earlier one has already.
+/// Returns the first paragraph whose name an earlier one has already.
 fn first_named_again(names: &[&Token]) -> Option<SourceFault>
     ensures { result ≡ first (named_again [] (map (λ t. t.now) names.now)) }
 {
@@ -106,7 +106,7 @@ fn first_named_again(names: &[&Token]) -> Option<SourceFault>
     found
 }
 
-/// The paragraph with which their number passes the limit.
+/// Returns the paragraph with which their number passes the limit.
 #[tactic(auto, using(crate::proofs::Families::surplus_first, crate::proofs::Families::surplus_none))]
 fn first_surplus(names: &[&Token]) -> Option<SourceFault>
     ensures { result ≡ first (too_many MAX_PARAGRAPHS (map (λ t. t.now) names.now)) }
@@ -117,7 +117,7 @@ fn first_surplus(names: &[&Token]) -> Option<SourceFault>
     None
 }
 
-/// The first IF that stands in as many as may be.
+/// Returns the first IF that stands in as many as may be.
 fn first_deep_if(alloc: Global, tokens: &[Token]) -> Result<Option<SourceFault>, AllocError>
     ensures { IfOk result (λ found. found ≡ first (deep_ifs MAX_IFS [] tokens.now)) }
 {
@@ -135,7 +135,7 @@ fn first_deep_if(alloc: Global, tokens: &[Token]) -> Result<Option<SourceFault>,
     Ok(found)
 }
 
-/// Whether a token is a literal, a number, SPACE, ZERO or one of their kin.
+/// Returns whether a token is a literal, a number, SPACE, ZERO or one of their kin.
 fn is_constant(token: &Token) -> bool
     ensures { result ≡ is_constant token.now }
 {
@@ -148,7 +148,7 @@ fn is_constant(token: &Token) -> bool
         || is_word(token, b"ZEROES")
 }
 
-/// Whether a token begins a relation.
+/// Returns whether a token begins a relation.
 fn is_relation(token: &Token) -> bool
     ensures { result ≡ starts relation_alternatives token.now }
 {
@@ -160,7 +160,7 @@ fn is_relation(token: &Token) -> bool
         || is_word(token, b"LESS")
 }
 
-/// Whether a constant comes next.
+/// Returns whether a constant comes next.
 fn next_is_constant(tokens: &[Token]) -> bool
     ensures { result ≡ begins is_constant tokens.now }
 {
@@ -170,7 +170,7 @@ fn next_is_constant(tokens: &[Token]) -> bool
     }
 }
 
-/// The tokens after a word that may be left out.
+/// Returns the tokens after a word that may be left out.
 fn behind_word<'a>(word: &[u8], tokens: &'a [Token]) -> &'a [Token]
     ensures { result.now ≡ behind_word word.now tokens.now }
 {
@@ -180,7 +180,7 @@ fn behind_word<'a>(word: &[u8], tokens: &'a [Token]) -> &'a [Token]
     }
 }
 
-/// Whether a relation and a constant come next.
+/// Returns whether a relation and a constant come next.
 fn relates_constant(tokens: &[Token]) -> bool
     ensures { result ≡ relates_constant tokens.now }
 {
@@ -190,7 +190,7 @@ fn relates_constant(tokens: &[Token]) -> bool
     is_relation(token) && next_is_constant(behind_word(b"TO", behind_word(b"THAN", rest)))
 }
 
-/// Whether a comparison of two constants comes next.
+/// Returns whether a comparison of two constants comes next.
 fn compares_constants(tokens: &[Token]) -> bool
     ensures { result ≡ compares_constants tokens.now }
 {
@@ -200,7 +200,7 @@ fn compares_constants(tokens: &[Token]) -> bool
     is_constant(token) && relates_constant(behind_word(b"NOT", behind_word(b"IS", rest)))
 }
 
-/// The first simple condition without an identifier.
+/// Returns the first simple condition without an identifier.
 fn first_without_identifier(tokens: &[Token]) -> Option<SourceFault>
     ensures { result ≡ first (without_identifier tokens.now) }
 {
@@ -214,7 +214,7 @@ fn first_without_identifier(tokens: &[Token]) -> Option<SourceFault>
     found
 }
 
-/// The first fault of some tokens that were read.
+/// Returns the first fault of some tokens that were read.
 #[tactic(auto, using(crate::proofs::Families::first_of_all))]
 pub(crate) fn first_read_fault(
     alloc: Global,

@@ -31,7 +31,7 @@ impl OpenIfs {
         }
     }
 
-    /// Whether a token is an IF, and as many are open as may be.
+    /// Returns whether a token is an IF, and as many are open as may be.
     pub(crate) fn is_too_deep(&self, token: &Token) -> bool
         ensures { result ≡ (is (reserved (codes "IF")) token.now && nat_le MAX_IFS (length self.now)) }
     {

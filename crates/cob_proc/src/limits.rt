@@ -14,22 +14,22 @@ pub const MAX_PARAGRAPHS: usize = 1_000;
 /// How deep IF may nest.
 pub const MAX_IFS: usize = 64;
 
-/// Whether a token names a paragraph, by whether a period stands before.
+/// Returns whether a token names a paragraph, by whether a period stands before.
 fn is_paragraph_name(after_period: bool, token: &Token) -> bool
     ensures { result ≡ (after_period && is name token.now) }
 {
     after_period && is_name(token)
 }
 
-/// Whether a token passes a limit: it is an IF that is too deep, or names a paragraph where no more
-/// may come.
+/// Returns whether a token passes a limit: it is an IF that is too deep, or names a paragraph where
+/// no more may come.
 fn passes(ifs: &OpenIfs, left: usize, is_paragraph: bool, token: &Token) -> bool
     ensures { result ≡ ((is (reserved (codes "IF")) token.now && nat_le MAX_IFS (length ifs.now)) || (is_paragraph && left == 0)) }
 {
     ifs.is_too_deep(token) || (is_paragraph && left == 0)
 }
 
-/// How many paragraphs may still come, after a token.
+/// Returns how many paragraphs may still come, after a token.
 fn left_behind(left: usize, is_paragraph: bool) -> usize
     ensures { result ≡ (if is_paragraph then left - 1 else left) }
 {
@@ -39,8 +39,8 @@ fn left_behind(left: usize, is_paragraph: bool) -> usize
     left
 }
 
-/// Where a limit is passed first: at an IF that is too deep, or at the name of a paragraph too
-/// many.
+/// Returns where a limit is passed first: at an IF that is too deep, or at the name of a paragraph
+/// too many.
 pub(crate) fn limit_passed_at(alloc: Global, tokens: &[Token]) -> Result<Option<usize>, AllocError>
     ensures first { IfOk result (λ found. found ≡ limit_place tokens.now) }
     ensures within { IfOk result (λ found. IfSome found (λ at. at < length tokens.now)) }

@@ -14,7 +14,7 @@ use cob_lex::{Token, TokenKind};
 use com_text::Rows;
 use std::alloc::Global;
 
-/// A sentence: one statement or more, and a period.
+/// Returns a sentence: one statement or more, and a period.
 #[tactic(auto, unfolding(crate::specs::DivisionReaders::read_sentence))]
 fn take_sentence(
     alloc: Global,
@@ -49,7 +49,7 @@ fn take_sentences(
     Ok((Rows::of_vec(list), rest))
 }
 
-/// A paragraph: its name, a period, and its sentences.
+/// Returns a paragraph: its name, a period, and its sentences.
 #[tactic(auto, unfolding(crate::specs::DivisionReaders::read_paragraph))]
 fn take_paragraph(
     alloc: Global,
@@ -65,7 +65,7 @@ fn take_paragraph(
     Ok((Paragraph { name, sentences }, rest))
 }
 
-/// Whether a paragraph comes next.
+/// Returns whether a paragraph comes next.
 fn next_is_paragraph(tokens: &[Token]) -> bool
     ensures { result ≡ begins (begins_form forms.paragraph) tokens.now }
 {
@@ -75,7 +75,7 @@ fn next_is_paragraph(tokens: &[Token]) -> bool
     }
 }
 
-/// One paragraph or more.
+/// Returns one paragraph or more.
 #[tactic(auto, unfolding(crate::specs::DivisionReaders::read_paragraphs))]
 fn take_paragraphs(
     alloc: Global,
@@ -112,8 +112,8 @@ fn take_division(
     Ok((Procedure { paragraphs }, rest))
 }
 
-/// The division that all of the tokens are, or how many are left where another is wanted. No IFs
-/// nest deeper than there are tokens, so the depth never runs out.
+/// Returns the division that all of the tokens are, or how many are left where another is wanted.
+/// No IFs nest deeper than there are tokens, so the depth never runs out.
 pub(crate) fn read_trees(alloc: Global, tokens: &[Token]) -> Result<Procedure, Stop>
     ensures { Gives procedure_trees result (read_procedure tokens.now) }
 {

@@ -14,7 +14,7 @@ use cob_lex::{Token, TokenKind};
 use com_text::Rows;
 use std::alloc::Global;
 
-/// What stands in the parentheses of a subscript.
+/// Returns what stands in the parentheses of a subscript.
 #[tactic(auto, unfolding(crate::specs::PartReaders::subscript_value))]
 fn take_subscript_value(position: Position, tokens: &[Token]) -> Result<(Subscript, &[Token]), Stop>
     ensures gives { Gives (λ x. (x.0, x.1.now)) result (subscript_value position tokens.now) }
@@ -28,7 +28,7 @@ fn take_subscript_value(position: Position, tokens: &[Token]) -> Result<(Subscri
     Ok((Subscript::Number { position, number }, rest))
 }
 
-/// A subscript with its parentheses.
+/// Returns a subscript with its parentheses.
 #[tactic(auto, unfolding(crate::specs::PartReaders::subscript))]
 fn take_subscript(tokens: &[Token]) -> Result<(Subscript, &[Token]), Stop>
     ensures gives { Gives (λ x. (x.0, x.1.now)) result (subscript tokens.now) }
@@ -40,7 +40,7 @@ fn take_subscript(tokens: &[Token]) -> Result<(Subscript, &[Token]), Stop>
     Ok((value, rest))
 }
 
-/// Whether a subscript comes next.
+/// Returns whether a subscript comes next.
 fn next_is_subscript(tokens: &[Token]) -> bool
     ensures { result ≡ begins (begins_form forms.subscript) tokens.now }
 {
@@ -50,7 +50,7 @@ fn next_is_subscript(tokens: &[Token]) -> bool
     }
 }
 
-/// A subscript, or none where none comes next.
+/// Returns a subscript, or none where none comes next.
 fn take_optional_subscript(tokens: &[Token]) -> Result<(Option<Subscript>, &[Token]), Stop>
     ensures gives { Gives (λ x. (x.0, x.1.now)) result (maybe (begins_form forms.subscript) subscript tokens.now) }
     ensures no_more { IfOk result (λ x. length x.1.now ≤ length tokens.now) }
@@ -62,7 +62,7 @@ fn take_optional_subscript(tokens: &[Token]) -> Result<(Option<Subscript>, &[Tok
     Ok((None, tokens))
 }
 
-/// An identifier.
+/// Returns an identifier.
 #[tactic(auto, unfolding(crate::specs::PartReaders::identifier))]
 pub(crate) fn take_identifier(tokens: &[Token]) -> Result<(Identifier, &[Token]), Stop>
     ensures gives { Gives (λ x. (x.0, x.1.now)) result (identifier tokens.now) }
@@ -73,7 +73,7 @@ pub(crate) fn take_identifier(tokens: &[Token]) -> Result<(Identifier, &[Token])
     Ok((Identifier { name, subscript }, rest))
 }
 
-/// Whether an identifier comes next.
+/// Returns whether an identifier comes next.
 fn next_is_identifier(tokens: &[Token]) -> bool
     ensures { result ≡ begins (begins_form forms.identifier) tokens.now }
 {
@@ -83,7 +83,7 @@ fn next_is_identifier(tokens: &[Token]) -> bool
     }
 }
 
-/// One identifier or more.
+/// Returns one identifier or more.
 #[tactic(auto, unfolding(crate::specs::PartReaders::identifiers))]
 pub(crate) fn take_identifiers(
     alloc: Global,
@@ -103,7 +103,7 @@ pub(crate) fn take_identifiers(
     Ok((Rows::of_vec(items), rest))
 }
 
-/// What is no identifier.
+/// Returns what is no identifier.
 #[tactic(auto, unfolding(crate::specs::PartReaders::constant))]
 pub(crate) fn take_constant(alloc: Global, tokens: &[Token]) -> Result<(Operand, &[Token]), Stop>
     ensures gives { Gives (λ x. (x.0, x.1.now)) result (constant tokens.now) }
@@ -137,7 +137,7 @@ pub(crate) fn take_constant(alloc: Global, tokens: &[Token]) -> Result<(Operand,
     Ok((Operand::Zeros(Position::of(word)), rest))
 }
 
-/// What is moved or compared.
+/// Returns what is moved or compared.
 #[tactic(auto, unfolding(crate::specs::PartReaders::operand))]
 pub(crate) fn take_operand(alloc: Global, tokens: &[Token]) -> Result<(Operand, &[Token]), Stop>
     ensures gives { Gives (λ x. (x.0, x.1.now)) result (operand tokens.now) }
@@ -150,7 +150,7 @@ pub(crate) fn take_operand(alloc: Global, tokens: &[Token]) -> Result<(Operand, 
     take_constant(alloc, tokens)
 }
 
-/// What is added or counted.
+/// Returns what is added or counted.
 #[tactic(auto, unfolding(crate::specs::PartReaders::addend))]
 pub(crate) fn take_addend(tokens: &[Token]) -> Result<(Addend, &[Token]), Stop>
     ensures gives { Gives (λ x. (x.0, x.1.now)) result (addend tokens.now) }
@@ -164,7 +164,7 @@ pub(crate) fn take_addend(tokens: &[Token]) -> Result<(Addend, &[Token]), Stop>
     Ok((Addend::Number(number), rest))
 }
 
-/// What a password is taken from.
+/// Returns what a password is taken from.
 #[tactic(auto, unfolding(crate::specs::PartReaders::key))]
 pub(crate) fn take_key(alloc: Global, tokens: &[Token]) -> Result<(Key, &[Token]), Stop>
     ensures gives { Gives (λ x. (x.0, x.1.now)) result (key tokens.now) }

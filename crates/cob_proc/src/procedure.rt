@@ -19,7 +19,7 @@ use cob_forms::{Stop, fault_at, first_with, split_wanted};
 use cob_lex::{SourceError, SourceFault, SourceKind, Token};
 use std::alloc::{AllocError, Global};
 
-/// The first fault where reading stopped with so many tokens left.
+/// Returns the first fault where reading stopped with so many tokens left.
 fn first_fault_stopped(
     alloc: Global,
     tokens: &[Token],
@@ -31,7 +31,7 @@ fn first_fault_stopped(
     first_fault_with(alloc, wanted, front)
 }
 
-/// The first of a fault and those of some tokens that were read.
+/// Returns the first of a fault and those of some tokens that were read.
 fn first_fault_with(
     alloc: Global,
     fault: SourceFault,
@@ -43,7 +43,7 @@ fn first_fault_with(
     Ok(first_with(fault, found))
 }
 
-/// How many tokens are left where reading stops, none where it goes over all of them.
+/// Returns how many tokens are left where reading stops, none where it goes over all of them.
 fn count_unread(alloc: Global, tokens: &[Token]) -> Result<usize, AllocError>
     ensures { IfOk result (λ left. left ≡ left_of (read_procedure tokens.now)) }
 {
@@ -54,8 +54,8 @@ fn count_unread(alloc: Global, tokens: &[Token]) -> Result<usize, AllocError>
     }
 }
 
-/// The first fault where a limit is passed at a token with others after it: those tell no earlier
-/// one.
+/// Returns the first fault where a limit is passed at a token with others after it: those tell no
+/// earlier one.
 #[tactic(auto, using(crate::proofs::CutFault::stopped_fault))]
 fn first_fault_up_to(alloc: Global, tokens: &[Token], at: usize) -> Result<SourceFault, AllocError>
     requires limit { limit_place tokens.now ≡ Some at }
@@ -95,13 +95,13 @@ fn read_all(alloc: Global, tokens: &[Token]) -> Result<Procedure, SourceError>
 /// Reads a Procedure Division, from the word PROCEDURE to the end of the source. Where a limit is
 /// passed it looks no further than that token, so it follows no IF deeper than they may nest.
 pub fn procedure_division(alloc: Global, tokens: &[Token]) -> Result<Procedure, SourceError>
-    // The tokens stand in order, as those of a source do.
+    // The tokens are in order, as those of a source do.
     requires { AreInOrder tokens.now }
     // The tokens spell the division that is found, and no other.
     ensures found { IfOk result (λ procedure. IsProcedure (procedure_trees procedure) tokens.now) }
-    // Where one is found there is no fault.
+    // Where one is found, the tokens have no fault.
     ensures sound { IfOk result (λ _. procedure_fault tokens.now ≡ None) }
-    // A refusal tells the first fault. Where memory runs out, nothing is said of the tokens.
+    // A refusal reports the first fault. If memory runs out, nothing is said of the tokens.
     ensures fault { IfErr result (λ error. IsRefused error (procedure_fault tokens.now)) }
 {
     if let Some(at) = limit_passed_at(alloc, tokens)?

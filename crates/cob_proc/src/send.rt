@@ -33,7 +33,7 @@ fn take_mark(tokens: &[Token]) -> Result<(Indicator, &[Token]), Stop>
     Ok((Indicator::Egi, rest))
 }
 
-/// What comes after WITH.
+/// Returns what comes after WITH.
 #[tactic(auto, unfolding(crate::specs::StatementReaders::with_what))]
 fn take_with_what(tokens: &[Token]) -> Result<(Indicator, &[Token]), Stop>
     ensures gives { Gives (λ x. (x.0, x.1.now)) result (with_what tokens.now) }
@@ -46,7 +46,7 @@ fn take_with_what(tokens: &[Token]) -> Result<(Indicator, &[Token]), Stop>
     take_mark(tokens)
 }
 
-/// What a SEND ends.
+/// Returns what a SEND ends.
 #[tactic(auto, unfolding(crate::specs::StatementReaders::indicator))]
 fn take_indicator(tokens: &[Token]) -> Result<(Indicator, &[Token]), Stop>
     ensures gives { Gives (λ x. (x.0, x.1.now)) result (indicator tokens.now) }
@@ -59,7 +59,7 @@ fn take_indicator(tokens: &[Token]) -> Result<(Indicator, &[Token]), Stop>
     take_mark(tokens)
 }
 
-/// The tokens after LINE or LINES, which may be left out.
+/// Returns the tokens after LINE or LINES, which may be left out.
 #[tactic(auto, unfolding(crate::specs::StatementReaders::perhaps_lines))]
 fn skip_lines(count: Lines, tokens: &[Token]) -> (Lines, &[Token])
     ensures gives { perhaps_lines count tokens.now ≡ Ok (result.0, result.1.now) }
@@ -71,7 +71,7 @@ fn skip_lines(count: Lines, tokens: &[Token]) -> (Lines, &[Token])
     (count, skip_word(tokens, b"LINES"))
 }
 
-/// How far is advanced.
+/// Returns how far is advanced.
 #[tactic(auto, unfolding(crate::specs::StatementReaders::lines_or_page))]
 fn take_lines(tokens: &[Token]) -> Result<(Lines, &[Token]), Stop>
     ensures gives { Gives (λ x. (x.0, x.1.now)) result (lines_or_page tokens.now) }
@@ -116,7 +116,7 @@ fn take_advancing(tokens: &[Token]) -> Result<(Advancing, &[Token]), Stop>
     Ok((Advancing { after, lines }, rest))
 }
 
-/// Whether BEFORE or AFTER comes next.
+/// Returns whether BEFORE or AFTER comes next.
 fn next_is_advancing(tokens: &[Token]) -> bool
     ensures { result ≡ begins (begins_form forms.advancing) tokens.now }
 {
@@ -127,7 +127,7 @@ fn next_is_advancing(tokens: &[Token]) -> bool
     }
 }
 
-/// What a SEND ends, and how the text is advanced.
+/// Returns what a SEND ends, and how the text is advanced.
 #[tactic(auto, unfolding(crate::specs::StatementReaders::ending))]
 fn take_ending(tokens: &[Token]) -> Result<(Ending, &[Token]), Stop>
     ensures gives { Gives (λ x. (x.0, x.1.now)) result (ending tokens.now) }
@@ -155,7 +155,7 @@ fn take_ending(tokens: &[Token]) -> Result<(Ending, &[Token]), Stop>
     ))
 }
 
-/// Whether the end of a SEND comes next.
+/// Returns whether the end of a SEND comes next.
 fn next_is_ending(tokens: &[Token]) -> bool
     ensures { result ≡ begins (begins_form forms.ending) tokens.now }
 {
@@ -168,7 +168,7 @@ fn next_is_ending(tokens: &[Token]) -> bool
     }
 }
 
-/// What is sent: a text, an end or both.
+/// Returns what is sent: a text, an end or both.
 #[tactic(auto, unfolding(crate::specs::StatementReaders::sent))]
 fn take_sent(tokens: &[Token]) -> Result<(Option<Identifier>, Option<Ending>, &[Token]), Stop>
     ensures gives { Gives (λ x. ((x.0, x.1), x.2.now)) result (sent tokens.now) }

@@ -56,7 +56,7 @@ fn take_subtract(tokens: &[Token]) -> Result<(Statement, &[Token]), Stop>
     Ok((Statement::Subtract { addend, target }, rest))
 }
 
-/// Whether THRU or THROUGH comes next.
+/// Returns whether THRU or THROUGH comes next.
 fn next_is_through(tokens: &[Token]) -> bool
     ensures { result ≡ begins (begins_form forms.through) tokens.now }
 {
@@ -81,7 +81,7 @@ fn take_through(tokens: &[Token]) -> Result<(Name, &[Token]), Stop>
     take_name(rest)
 }
 
-/// The last paragraph of a range, or none where none is written.
+/// Returns the last paragraph of a range, or none where none is written.
 fn take_optional_through(tokens: &[Token]) -> Result<(Option<Name>, &[Token]), Stop>
     ensures gives { Gives (λ x. (x.0, x.1.now)) result (maybe (begins_form forms.through) through tokens.now) }
     ensures no_more { IfOk result (λ x. length x.1.now ≤ length tokens.now) }
@@ -103,7 +103,7 @@ fn take_times(count: Addend, tokens: &[Token]) -> Result<(Repetition, &[Token]),
     Ok((Repetition::Times(count), rest))
 }
 
-/// How often a range is performed.
+/// Returns how often a range is performed.
 #[tactic(auto, unfolding(crate::specs::StatementReaders::repetition))]
 fn take_repetition(alloc: Global, tokens: &[Token]) -> Result<(Repetition, &[Token]), Stop>
     ensures gives { Gives (λ x. (x.0, x.1.now)) result (repetition tokens.now) }
@@ -175,7 +175,7 @@ fn take_stop(tokens: &[Token]) -> Result<(Statement, &[Token]), Stop>
     Ok((Statement::Stop, rest))
 }
 
-/// A statement in which no others stand.
+/// Returns a statement in which no others stand.
 #[tactic(auto, unfolding(crate::specs::StatementReaders::read_plain))]
 pub(crate) fn take_plain(alloc: Global, tokens: &[Token]) -> Result<(Statement, &[Token]), Stop>
     ensures gives { Gives (λ x. (tree_of x.0, x.1.now)) result (stated read_plain tokens.now) }

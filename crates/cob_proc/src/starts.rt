@@ -9,7 +9,7 @@ ghost use Rattle.cob_proc.specs.Spelled.{begins_form};
 use cob_forms::is_word;
 use cob_lex::Token;
 
-/// Whether a token begins a statement in which no others stand.
+/// Returns whether a token begins a statement in which no others stand.
 fn starts_plain(token: &Token) -> bool
     ensures { result ≡ starts plain_alternatives token.now }
 {
@@ -26,21 +26,21 @@ fn starts_plain(token: &Token) -> bool
         || is_word(token, b"ACCEPT")
 }
 
-/// Whether a token begins a statement that may stand in NO DATA.
+/// Returns whether a token begins a statement that may occur in NO DATA.
 fn starts_inner(token: &Token) -> bool
     ensures { result ≡ begins_form forms.inner token.now }
 {
     is_word(token, b"RECEIVE") || starts_plain(token)
 }
 
-/// Whether a token begins a statement.
+/// Returns whether a token begins a statement.
 fn starts_statement(token: &Token) -> bool
     ensures { result ≡ begins_form forms.statement token.now }
 {
     is_word(token, b"IF") || starts_inner(token)
 }
 
-/// Whether a statement that may stand in NO DATA comes next.
+/// Returns whether a statement that may occur in NO DATA comes next.
 pub(crate) fn next_is_inner(tokens: &[Token]) -> bool
     ensures { result ≡ begins (begins_form forms.inner) tokens.now }
 {
@@ -50,7 +50,7 @@ pub(crate) fn next_is_inner(tokens: &[Token]) -> bool
     }
 }
 
-/// Whether a statement comes next.
+/// Returns whether a statement comes next.
 pub(crate) fn next_is_statement(tokens: &[Token]) -> bool
     ensures { result ≡ begins (begins_form forms.statement) tokens.now }
 {
@@ -60,7 +60,7 @@ pub(crate) fn next_is_statement(tokens: &[Token]) -> bool
     }
 }
 
-/// Whether a sentence comes next.
+/// Returns whether a sentence comes next.
 #[tactic(auto, using(cob_forms::proofs::Agreement::same_begin))]
 pub(crate) fn next_is_sentence(tokens: &[Token]) -> bool
     ensures { result ≡ begins (begins_form forms.sentence) tokens.now }

@@ -57,7 +57,7 @@ fn take_receive_alone(alloc: Global, tokens: &[Token]) -> Result<(Statement, &[T
     Ok((statement, rest))
 }
 
-/// A statement inside NO DATA.
+/// Returns a statement inside NO DATA.
 #[tactic(auto, unfolding(crate::specs::DivisionReaders::inner))]
 fn take_inner(alloc: Global, tokens: &[Token]) -> Result<(Statement, &[Token]), Stop>
     ensures gives { Gives (λ x. (tree_of x.0, x.1.now)) result (inner tokens.now) }
@@ -69,7 +69,7 @@ fn take_inner(alloc: Global, tokens: &[Token]) -> Result<(Statement, &[Token]), 
     take_plain(alloc, tokens)
 }
 
-/// One statement inside NO DATA or more.
+/// Returns one statement inside NO DATA or more.
 #[tactic(auto, unfolding(crate::specs::DivisionReaders::inners))]
 fn take_inners(alloc: Global, tokens: &[Token]) -> Result<(Vec<Statement>, &[Token]), Stop>
     ensures gives { Gives (λ x. (trees_of x.0.items, x.1.now)) result (inners tokens.now) }
@@ -159,7 +159,7 @@ fn take_branch(alloc: Global, depth: usize, tokens: &[Token]) -> Result<(Stateme
     Ok((statement, rest))
 }
 
-/// A statement in which fewer IFs than `depth` stand in one another.
+/// Returns a statement in which fewer IFs than `depth` stand in one another.
 #[cycle(statement)]
 #[tactic(auto, using(crate::proofs::Fuel::statement_steps))]
 fn take_statement(
@@ -182,7 +182,7 @@ fn take_statement(
     take_plain(alloc, tokens)
 }
 
-/// One statement or more.
+/// Returns one statement or more.
 #[cycle(statement)]
 #[tactic(auto, unfolding(crate::specs::DivisionReaders::read_statements))]
 pub(crate) fn take_statements(

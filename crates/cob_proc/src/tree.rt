@@ -56,7 +56,7 @@ pub enum Statement {
     Exit,
     /// STOP RUN.
     Stop,
-    /// RECEIVE cd MESSAGE or SEGMENT INTO item, and what is done where there is no data.
+    /// RECEIVE cd MESSAGE or SEGMENT INTO item, and what is done if no data waits.
     Receive {
         cd: Name,
         segment: bool,

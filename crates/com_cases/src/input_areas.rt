@@ -4,7 +4,7 @@ use com_cd::{Designation, InArea, InField, Status};
 use com_text::is_text;
 use std::alloc::{AllocError, Global};
 
-/// What a call on an input area answers: None where it is no such call.
+/// Returns what a call on an input area answers: None for any other call.
 pub fn answer(
     alloc: Global,
     area: &mut InArea,
@@ -38,7 +38,7 @@ fn read(alloc: Global, area: &mut InArea, bytes: &[u8]) -> Result<String, AllocE
     }
 }
 
-/// The field that a word names: None where it names none.
+/// Returns the field that a word names: None where it names none.
 fn field_of(word: &[u8]) -> Option<InField> {
     match word {
         b"Queue" => Some(InField::Queue),

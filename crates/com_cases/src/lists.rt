@@ -3,7 +3,7 @@ use case_lines::Words;
 use com_text::Rows;
 use std::alloc::{AllocError, Global};
 
-/// What a call on lists of numbers answers: None where it is no such call.
+/// Returns what a call on lists of numbers answers: None for any other call.
 pub fn answer(
     alloc: Global,
     call: &[u8],
@@ -21,7 +21,7 @@ pub fn answer(
     Ok(Some(answer))
 }
 
-/// The numbers that are left, one pushed after the other.
+/// Returns the numbers that are left, one pushed after the other.
 fn rows_of(alloc: Global, words: &mut Words<'_>) -> Result<Rows<u64>, AllocError> {
     let mut rows = Rows::new(alloc);
     for _number in 0..words.len() {
@@ -30,7 +30,7 @@ fn rows_of(alloc: Global, words: &mut Words<'_>) -> Result<Rows<u64>, AllocError
     Ok(rows)
 }
 
-/// How many numbers stay, and which.
+/// Returns how many numbers stay, and which.
 fn truncated(alloc: Global, words: &mut Words<'_>) -> Result<String, AllocError> {
     let count = words.number() as usize;
     let mut rows = rows_of(alloc, words)?;
@@ -38,7 +38,7 @@ fn truncated(alloc: Global, words: &mut Words<'_>) -> Result<String, AllocError>
     format!(in alloc; "{}: {:?}", rows.len(), rows.as_slice())
 }
 
-/// The numbers, which go from a list to a `Vec`, to a list and back.
+/// Returns the numbers, which go from a list to a `Vec`, to a list and back.
 fn back(alloc: Global, words: &mut Words<'_>) -> Result<String, AllocError> {
     let numbers = rows_of(alloc, words)?.into_vec();
     let numbers = Rows::of_vec(numbers).into_vec();

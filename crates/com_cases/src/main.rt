@@ -44,7 +44,7 @@ impl Cases for Calls {
     }
 }
 
-/// What a call answers that rests on its words alone: None where it is no such call.
+/// Returns what a call answers that rests on its words alone: None for any other call.
 fn of_values(
     alloc: Global,
     call: &[u8],

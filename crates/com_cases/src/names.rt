@@ -3,7 +3,7 @@ use case_lines::{Quoted, Words};
 use com_text::{Field, Name, NamePath};
 use std::alloc::{AllocError, Global};
 
-/// What a call on names answers: None where it is no such call.
+/// Returns what a call on names answers: None for any other call.
 pub fn answer(
     alloc: Global,
     call: &[u8],
@@ -51,7 +51,7 @@ fn are_equal(alloc: Global, words: &mut Words<'_>) -> Result<String, AllocError>
     format!(in alloc; "{}", first == second)
 }
 
-/// The path of these names, as far as it takes them.
+/// Returns the path of these names, as far as it takes them.
 fn path(alloc: Global, names: &[Vec<u8>]) -> Result<String, AllocError> {
     let mut path: Option<NamePath> = None;
     for bytes in names {

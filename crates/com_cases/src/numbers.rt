@@ -6,7 +6,7 @@ use com_text::{
 };
 use std::alloc::{AllocError, Global};
 
-/// What a call on numbers and counted fields answers: None where it is no such call.
+/// Returns what a call on numbers and counted fields answers: None for any other call.
 pub fn answer(
     alloc: Global,
     call: &[u8],

@@ -7,7 +7,7 @@ use com_cd::{MAX_OCCURRENCES, OutArea, OutField};
 use com_text::is_text;
 use std::alloc::{AllocError, Global};
 
-/// What a call on an output area answers: None where it is no such call.
+/// Returns what a call on an output area answers: None for any other call.
 pub fn answer(
     alloc: Global,
     area: &mut OutArea,
@@ -43,7 +43,8 @@ fn read(alloc: Global, area: &mut OutArea, bytes: &[u8]) -> Result<String, Alloc
     }
 }
 
-/// The field that a word names, at this occurrence where it has one: None where it names none.
+/// Returns the field that a word names, at this occurrence where it has one: None where it names
+/// none.
 fn field_of(word: &[u8], occurrence: u32) -> Option<OutField>
     ensures { (n : ℕ) → occurrence < n → IfSome result (IsFieldOf n) }
 {
@@ -57,7 +58,7 @@ fn field_of(word: &[u8], occurrence: u32) -> Option<OutField>
     }
 }
 
-/// The field that two words name: None where the area has no such field.
+/// Returns the field that two words name: None where the area has no such field.
 fn field_in(area: &OutArea, words: &mut Words<'_>) -> Option<OutField>
     ensures { IfSome result (IsFieldOf (occurrences_of area.now)) }
 {

@@ -3,7 +3,7 @@ use case_lines::{Quoted, Words};
 use com_text::{Text, TextError, is_text};
 use std::alloc::{AllocError, Global};
 
-/// What a call on texts answers: None where it is no such call.
+/// Returns what a call on texts answers: None for any other call.
 pub fn answer(
     alloc: Global,
     call: &[u8],

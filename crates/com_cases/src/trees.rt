@@ -4,7 +4,7 @@ use com_text::{Name, NamePath};
 use com_tree::{Choose, Leaf, Tree, TreeError, TreeRow, is_outline};
 use std::alloc::{AllocError, Global};
 
-/// What a call on trees answers: None where it is no such call.
+/// Returns what a call on trees answers: None for any other call.
 pub fn answer(
     alloc: Global,
     tree: &mut Option<Tree>,
@@ -20,7 +20,7 @@ pub fn answer(
     }
 }
 
-/// What a call on this tree answers: None where it is no such call.
+/// Returns what a call on this tree answers: None for any other call.
 fn of_tree(
     alloc: Global,
     tree: &Tree,
@@ -37,7 +37,7 @@ fn of_tree(
     Ok(Some(answer))
 }
 
-/// The row that three words write: None where they write none.
+/// Returns the row that three words write: None where they write none.
 fn row_of(words: &mut Words<'_>) -> Option<TreeRow> {
     let depth = words.number().min(9) as u32;
     let name = Name::new(words.bytes())?;
@@ -84,7 +84,7 @@ fn copy(alloc: Global, tree: &Tree) -> Result<String, AllocError> {
     format!(in alloc; "{} nodes", copy.rows().len())
 }
 
-/// The path of some names: None where they are no path.
+/// Returns the path of some names: None where they are no path.
 fn path_of(words: &[Vec<u8>]) -> Option<NamePath> {
     let (first, below) = words.split_first()?;
     let mut path = NamePath::new(Name::new(first)?);
@@ -94,7 +94,8 @@ fn path_of(words: &[Vec<u8>]) -> Option<NamePath> {
     Some(path)
 }
 
-/// The node with a path: its row, what leaf it is, the number of its tree, and the leaves under it.
+/// Returns the node with a path: its row, what leaf it is, the number of its tree, and the leaves
+/// under it.
 fn node(alloc: Global, tree: &Tree, words: &[Vec<u8>]) -> Result<String, AllocError> {
     let Some(path) = path_of(words) else {
         return String::from_str(alloc, "no path");
@@ -124,7 +125,8 @@ fn path(alloc: Global, tree: &Tree, number: u64) -> Result<String, AllocError> {
     Ok(answer)
 }
 
-/// The leaf that the node with a path chooses, by the first arrival number of each leaf, or `-`.
+/// Returns the leaf that the node with a path chooses, by the first arrival number of each leaf, or
+/// `-`.
 fn next(alloc: Global, tree: &Tree, words: &mut Words<'_>) -> Result<String, AllocError> {
     let mut heads = Vec::new(alloc);
     for _leaf in 0..tree.leaves() {

@@ -19,7 +19,8 @@ pub enum Designation {
     Malformed,
 }
 
-/// The path that the name fields at the beginning of an area hold: None exactly if they hold none.
+/// Returns the path that the name fields at the beginning of an area hold: None exactly if they
+/// hold none.
 pub(crate) fn path_in(area: &[u8; IN_AREA_LENGTH]) -> Option<NamePath>
     ensures { (path : List (List ℕ)) → (result ≡ Some path) ↔ Designates area.now path }
 {
@@ -33,7 +34,7 @@ pub(crate) fn path_in(area: &[u8; IN_AREA_LENGTH]) -> Option<NamePath>
     Some(path)
 }
 
-/// The name that a field holds, followed by spaces.
+/// Returns the name that a field holds, followed by spaces.
 fn name_in(field: &[u8; FIELD_LENGTH]) -> Option<Name>
     ensures { (name : List ℕ) → (result ≡ Some name)
         ↔ (IsName name × (field.now ≡ field_of name)) }

@@ -41,7 +41,7 @@ pub enum InField {
 }
 
 impl InField {
-    /// Where the field begins, counted from 0.
+    /// Returns where the field begins, counted from 0.
     const fn start(self) -> usize
         ensures { result ≡ start_of self }
     {
@@ -60,7 +60,7 @@ impl InField {
         }
     }
 
-    /// How many characters the field has.
+    /// Returns how many characters the field has.
     pub const fn width(self) -> usize
         ensures { result ≡ width_of self }
     {
@@ -108,7 +108,7 @@ impl InArea {
         InArea { bytes }
     }
 
-    /// The area with these characters: None exactly if there are not 87 bytes, or one is
+    /// Returns the area with these characters: None exactly if there are not 87 bytes, or one is
     /// outside 20 to 7E hexadecimal.
     pub fn read(bytes: &[u8]) -> Option<InArea>
         ensures some { IsSome result ↔ IsInputArea bytes.now }
@@ -122,7 +122,7 @@ impl InArea {
         Some(InArea { bytes: area })
     }
 
-    /// The 87 characters.
+    /// Returns the 87 characters.
     pub fn as_bytes(&self) -> &[u8]
         ensures characters { result.now ≡ self.now }
         ensures valid { IsInputArea self.now }
@@ -130,7 +130,7 @@ impl InArea {
         &self.bytes
     }
 
-    /// The characters of one field.
+    /// Returns the characters of one field.
     pub fn get(&self, field: InField) -> &[u8]
         ensures { result.now ≡ in_field field self.now }
     {
@@ -138,7 +138,7 @@ impl InArea {
         &self.bytes[start..start + field.width()]
     }
 
-    /// The path that the four name fields designate. They are malformed exactly if SYMBOLIC
+    /// Returns the path that the four name fields designate. They are malformed exactly if SYMBOLIC
     /// QUEUE holds no name, a level below it holds neither spaces nor a name, or a name follows a
     /// level of spaces.
     pub fn designation(&self) -> Designation

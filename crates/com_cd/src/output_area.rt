@@ -36,7 +36,7 @@ pub enum OutField {
 }
 
 impl OutField {
-    /// Where the field begins, counted from 0.
+    /// Returns where the field begins, counted from 0.
     const fn start(self) -> usize
         ensures { result ≡ out_start self }
     {
@@ -49,7 +49,7 @@ impl OutField {
         }
     }
 
-    /// How many characters the field has.
+    /// Returns how many characters the field has.
     pub const fn width(self) -> usize
         ensures { result ≡ out_width self }
     {
@@ -106,8 +106,8 @@ impl OutArea {
         OutArea { bytes, occurrences }
     }
 
-    /// The area with these characters: None exactly if there are not 10 bytes and 13 for each of
-    /// 1 to 8 occurrences, or one is outside 20 to 7E hexadecimal.
+    /// Returns the area with these characters: None exactly if there are not 10 bytes and 13 for
+    /// each of 1 to 8 occurrences, or one is outside 20 to 7E hexadecimal.
     pub fn read(bytes: &[u8]) -> Option<OutArea>
         ensures some { IsSome result ↔ IsOutputArea bytes.now }
         ensures area { IfSome result (λ area. area ≡ bytes.now) }
@@ -124,7 +124,7 @@ impl OutArea {
         })
     }
 
-    /// How many occurrences the area has, 1 to 8.
+    /// Returns how many occurrences the area has, 1 to 8.
     pub fn occurrences(&self) -> u32
         ensures occurrences { result ≡ occurrences_of self.now }
         ensures valid { IsOutputArea self.now }
@@ -132,7 +132,7 @@ impl OutArea {
         self.occurrences
     }
 
-    /// The characters: 10, and 13 for each occurrence.
+    /// Returns the characters: 10, and 13 for each occurrence.
     pub fn as_bytes(&self) -> &[u8]
         ensures characters { result.now ≡ self.now }
         ensures valid { IsOutputArea self.now }
@@ -140,7 +140,7 @@ impl OutArea {
         &self.bytes[..HEAD_LENGTH + OCCURRENCE_LENGTH * self.occurrences as usize]
     }
 
-    /// The characters of one field.
+    /// Returns the characters of one field.
     pub fn get(&self, field: OutField) -> &[u8]
         requires { IsFieldOf (occurrences_of self.now) field }
         ensures characters { result.now ≡ out_field field self.now }
@@ -162,8 +162,8 @@ impl OutArea {
         write_part(&mut self.bytes, field.start(), value);
     }
 
-    /// The number of DESTINATION COUNT: None exactly if it is not four digits, or its number is
-    /// 0 or above the occurrences of the area.
+    /// Returns the number of DESTINATION COUNT: None exactly if it is not four digits, or its
+    /// number is 0 or above the occurrences of the area.
     pub fn count(&self) -> Option<u32>
         ensures count { result ≡ destination_count self.now }
         ensures positive { IfSome result (λ n. 1 ≤ n) }
@@ -178,7 +178,8 @@ impl OutArea {
     }
 }
 
-/// How many occurrences an area of so many characters has: None exactly if no area is so long.
+/// Returns how many occurrences an area of so many characters has: None exactly if no area is so
+/// long.
 fn occurrences_in(characters: usize) -> Option<u32>
     ensures found { IfSome result (λ n.
         (1 ≤ n) × (n ≤ MAX_OCCURRENCES) × (characters ≡ 10 + 13 * n)) }

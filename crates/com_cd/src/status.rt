@@ -26,7 +26,7 @@ pub enum Status {
 }
 
 impl Status {
-    /// The two characters of STATUS KEY.
+    /// Returns the two characters of STATUS KEY.
     pub const fn bytes(self) -> [u8; STATUS_LENGTH]
         ensures bytes { result ≡ status_bytes self }
         ensures text { IsText result }

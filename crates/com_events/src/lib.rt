@@ -10,9 +10,9 @@
 //! };
 //! ```
 //!
-//! There is no logic here. `specs/Calls.antt` says which parts of a call are within their ranges
-//! (`IsWellFormed`), which replies a call may have (`IsReplyTo`), and which entries a journal can write
-//! (`HasText`).
+//! These are plain types. `specs/Calls.antt` says which parts of a call are within their ranges
+//! (`IsWellFormed`), which replies a call may have (`IsReplyTo`), and which entries a journal can
+//! write (`HasText`).
 #![tactic(auto)]
 
 mod call;

@@ -7,11 +7,11 @@ use com_text::Text;
 pub enum Reply {
     /// The unit runs. A scheduled unit is handed the four names of the queue, 48 characters.
     Started { names: Option<[u8; 48]> },
-    /// A portion's text, and the area that tells of it.
+    /// A portion's text, and its area.
     Given { area: InArea, text: Text },
-    /// Nothing waits, and the area tells so.
+    /// Nothing waits; the area says so.
     NoData { area: InArea },
-    /// The area designates no queue, and tells so.
+    /// The area designates no queue, and says so.
     Refused { area: InArea },
     /// The unit waits until there is something to receive.
     Waits,

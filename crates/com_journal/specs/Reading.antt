@@ -309,7 +309,7 @@ call_at line = do
 
 -- What a call is answered.
 
--- the four names, or none where there is no character
+-- the four names, or none if there are no characters
 unfoldable pub names_of : List ℕ → Option (Option (List ℕ))
 names_of content =
     if length content == 0 then Some None

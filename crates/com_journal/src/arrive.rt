@@ -14,7 +14,7 @@ use com_msg::{MAX_MESSAGE_LENGTH, MAX_SEGMENT_LENGTH, MAX_SEGMENTS, RawMessage, 
 use com_text::{Rows, Text};
 use std::alloc::{AllocError, Global};
 
-/// An ARRIVE, after its verb.
+/// Takes an ARRIVE, after its verb.
 #[tactic(auto, unfolding(crate::specs::Reading::arrive_at))]
 pub(crate) fn read_call(alloc: Global, line: &mut Line<'_>) -> Result<Call, Unread>
     ensures { Gives (λ call. (call, line.new)) result (arrive_at line.old) }
@@ -30,7 +30,7 @@ pub(crate) fn read_call(alloc: Global, line: &mut Line<'_>) -> Result<Call, Unre
     Ok(Call::Arrive { stamp, message })
 }
 
-/// What an ARRIVE is answered.
+/// Takes what an ARRIVE is answered.
 #[tactic(auto, unfolding(crate::specs::Reading::arrived_at))]
 pub(crate) fn read_reply(line: &mut Line<'_>) -> Result<Reply, Unread>
     ensures { Gives (λ reply. (reply, line.new)) result (arrived_at line.old) }

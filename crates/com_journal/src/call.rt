@@ -13,7 +13,7 @@ use com_events::{Call, Party};
 use com_text::{Name, Rows};
 use std::alloc::{AllocError, Global};
 
-/// The party and the call at the beginning of a line.
+/// Takes the party and the call at the beginning of a line.
 #[tactic(auto, unfolding(crate::specs::Reading::call_at))]
 pub(crate) fn read(alloc: Global, line: &mut Line<'_>) -> Result<(Party, Call), Unread>
     ensures { Gives (λ found. (found, line.new)) result (call_at line.old) }
@@ -44,7 +44,7 @@ fn party_of(sort: u8, name: Name) -> Result<Party, Unread>
     }
 }
 
-/// The call of a party, after its verb.
+/// Takes the call of a party, after its verb.
 #[tactic(auto, unfolding(crate::specs::Reading::verb_behind))]
 fn call_behind(
     alloc: Global,

@@ -17,7 +17,7 @@ use com_events::{Call, Entry, Party};
 use com_text::Rows;
 use std::alloc::{AllocError, Global};
 
-/// The call whose text the bytes are.
+/// Returns the call whose text the bytes are.
 pub(crate) fn call_of(alloc: Global, bytes: &[u8]) -> Result<(Party, Call), Unread>
     ensures found { IfOk result (λ found. IsCallText found.0 found.1 bytes.now) }
     ensures each_text { (party : AParty) (call : ACall) → IsCallText party call bytes.now
@@ -26,7 +26,7 @@ pub(crate) fn call_of(alloc: Global, bytes: &[u8]) -> Result<(Party, Call), Unre
     read_call(alloc, bytes)
 }
 
-/// The entry whose line the bytes are.
+/// Returns the entry whose line the bytes are.
 pub(crate) fn entry_of(alloc: Global, bytes: &[u8]) -> Result<Entry, Unread>
     ensures found { IfOk result (λ entry. IsLine entry bytes.now) }
     ensures each_line { (entry : AnEntry) → IsLine entry bytes.now

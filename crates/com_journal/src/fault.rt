@@ -1,13 +1,13 @@
-//! Why bytes are no journal or no script.
+//! Why bytes are not a journal or a script.
 use std::alloc::AllocError;
 use thiserror::Error;
 
 /// What is wrong with a line.
 #[derive(Clone, Copy, Debug, PartialEq, Eq)]
 pub enum JournalKind {
-    /// The first line is not the header, or there is no line.
+    /// The first line is not the header, or no line is there.
     BadHeader,
-    /// The line is no text of an entry, or in a script of a call.
+    /// The line is not the text of an entry, or, in a script, of a call.
     BadLine,
     /// No line feed ends the last line, and in a journal each line has one.
     NoLineEnd,

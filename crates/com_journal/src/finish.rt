@@ -13,7 +13,7 @@ use com_msg::FrameFault;
 use com_text::Rows;
 use std::alloc::AllocError;
 
-/// An END, after its verb.
+/// Takes an END, after its verb.
 #[tactic(auto, unfolding(crate::specs::Reading::finish_at))]
 pub(crate) fn read_call(line: &mut Line<'_>) -> Result<Call, Unread>
     ensures { Gives (λ call. (call, line.new)) result (finish_at line.old) }
@@ -33,7 +33,7 @@ fn reason(line: &mut Line<'_>) -> Result<EndReason, Unread>
     plain_end_of(word)
 }
 
-/// The kind and the place of a fault.
+/// Takes the kind and the place of a fault.
 #[tactic(auto, unfolding(crate::specs::Reading::frame_at))]
 fn frame(line: &mut Line<'_>) -> Result<EndReason, Unread>
     ensures { Gives (λ reason. (reason, line.new)) result (frame_at line.old) }

@@ -18,8 +18,8 @@ use std::alloc::{AllocError, Global};
 
 const HEADER: &[u8; 13] = b"MCS-JOURNAL 1";
 
-/// The journal of entries that have a text: a header, and a line for each entry. The only error is
-/// out of memory.
+/// Returns the journal of entries that have a text: a header, and a line for each entry. The only
+/// error is out of memory.
 pub fn write(alloc: Global, entries: &[Entry]) -> Result<Rows<u8>, AllocError>
     requires { All HasText entries.now }
     ensures { IfOk result (IsJournal entries.now) }
@@ -46,13 +46,13 @@ pub fn write_entry(call: &[u8], entry: &Entry, into: &mut Rows<u8>) -> Result<()
     into.extend_from_slice(b"\n")
 }
 
-/// The entries of a journal, or the fault of the first line that is refused.
+/// Returns the entries of a journal, or the fault of the first line that is refused.
 pub fn read(alloc: Global, bytes: &[u8]) -> Result<Rows<Entry>, JournalError>
     // What is read has these bytes as its journal, and a fault is that of the bytes.
     ensures read { IfOk result (λ entries. IsJournal entries bytes.now) }
     ensures texts { IfOk result (All HasText) }
     ensures refused { IfErr result (Tells (IsJournalFault bytes.now)) }
-    // A journal is read, and a fault is told, unless memory runs out.
+    // A journal is read, and a fault is reported, unless memory runs out.
     ensures each_journal { (history : List AnEntry) → IsJournal history bytes.now
         → MatchResult result (Is history) IsMemory }
     ensures each_fault { (fault : AFault) → IsJournalFault bytes.now fault
@@ -94,7 +94,7 @@ fn is_header(line: &[u8]) -> bool
     line == HEADER.as_slice()
 }
 
-/// The entries of the lines after the header.
+/// Takes the entries of the lines after the header.
 fn read_entries(alloc: Global, lines: &mut Lines<'_>) -> Result<Rows<Entry>, JournalError>
     requires { length lines.old < 2 ^ 63 }
     ensures read { IfOk result (λ entries.
@@ -113,7 +113,7 @@ fn read_entries(alloc: Global, lines: &mut Lines<'_>) -> Result<Rows<Entry>, Jou
     Ok(entries)
 }
 
-/// The entry of a line after the header.
+/// Returns the entry of a line after the header.
 fn entry_in(alloc: Global, line: &TextLine<'_>, number: u64) -> Result<Entry, JournalError>
     requires { 2 ≤ number }
     ensures entry { IfOk result (λ entry. IsLine entry line.now.text.now) }

@@ -4,9 +4,9 @@
 //! its reply. [`write`] gives the journal of entries that have a text. [`read`] gives the entries
 //! of a journal, and answers a fault exactly if bytes are none: the first line that is refused, and
 //! why. A script is a header, and a call's text on each line; [`read_calls`] gives its calls or its
-//! fault likewise, and [`call_line`] the call of one line, None exactly if it is no call's text. An
-//! entry has one line and a line one entry, and no line begins another, so bytes are the journal of
-//! one history at most ([`a_journal_is_of_one_history`] and the laws beside it).
+//! fault likewise, and [`call_line`] the call of one line, None exactly if it is not the text of a
+//! call. An entry has one line and a line one entry, and no line begins another, so bytes are the
+//! journal of one history at most ([`a_journal_is_of_one_history`] and the laws beside it).
 //!
 //! For texts that are too long to be kept as values, [`write_entry`] adds one line to a journal,
 //! and [`script_lines`] gives the lines of a script one by one. [`write_stop`] and [`write_finish`]

@@ -16,7 +16,7 @@ pub(crate) const MAX_NUMBER: u64 = 999_999_999_999_999_999;
 /// Why nothing was read.
 #[derive(Clone, Copy, Debug, PartialEq, Eq)]
 pub(crate) enum Unread {
-    /// The bytes are no text of what was looked for.
+    /// The bytes are not a text of what was looked for.
     Refused,
     /// Memory ran out.
     Memory,
@@ -55,7 +55,7 @@ impl<'a> Line<'a> {
         }
     }
 
-    /// The next byte.
+    /// Takes the next byte.
     #[tactic(auto, unfolding(crate::specs::Reading::first_at))]
     pub(crate) fn first(&mut self) -> Result<u8, Unread>
         ensures { Gives (λ byte. (byte, self.new)) result (first_at self.old) }
@@ -67,7 +67,7 @@ impl<'a> Line<'a> {
         Ok(*first)
     }
 
-    /// The word after a space, up to the next space or the end.
+    /// Takes the word after a space, up to the next space or the end.
     #[tactic(auto, unfolding(crate::specs::Reading::word_at))]
     pub(crate) fn word(&mut self) -> Result<&'a [u8], Unread>
         ensures { Gives (λ word. (word.now, self.new)) result (word_at self.old) }
@@ -108,7 +108,7 @@ impl<'a> Line<'a> {
         }
     }
 
-    /// The number after a space, written without a leading zero.
+    /// Takes the number after a space, written without a leading zero.
     #[tactic(auto, unfolding(crate::specs::Reading::number_at))]
     pub(crate) fn number(&mut self, least: u64, most: u64) -> Result<u64, Unread>
         requires { most < 10 ^ 18 }
@@ -137,7 +137,7 @@ impl<'a> Line<'a> {
         Ok(chunk)
     }
 
-    /// The content of the counted field after a space.
+    /// Takes the content of the counted field after a space.
     #[tactic(auto, unfolding(crate::specs::Reading::counted_at))]
     pub(crate) fn counted(&mut self) -> Result<&'a [u8], Unread>
         ensures { Gives (λ content. (content.now, self.new)) result (counted_at self.old) }
@@ -152,7 +152,7 @@ impl<'a> Line<'a> {
         Ok(content)
     }
 
-    /// The text of so many characters in the counted field after a space.
+    /// Takes the text of so many characters in the counted field after a space.
     #[tactic(auto, unfolding(crate::specs::Reading::text_at))]
     pub(crate) fn text(&mut self, alloc: Global, least: usize, most: usize) -> Result<Text, Unread>
         ensures { Gives (λ text. (text, self.new)) result (text_at least most self.old) }
@@ -167,7 +167,7 @@ impl<'a> Line<'a> {
         }
     }
 
-    /// The input area in the counted field after a space.
+    /// Takes the input area in the counted field after a space.
     #[tactic(auto, unfolding(crate::specs::Reading::in_area_at))]
     pub(crate) fn in_area(&mut self) -> Result<InArea, Unread>
         ensures { Gives (λ area. (area, self.new)) result (in_area_at self.old) }
@@ -178,7 +178,7 @@ impl<'a> Line<'a> {
         }
     }
 
-    /// The output area in the counted field after a space.
+    /// Takes the output area in the counted field after a space.
     #[tactic(auto, unfolding(crate::specs::Reading::out_area_at))]
     pub(crate) fn out_area(&mut self) -> Result<OutArea, Unread>
         ensures { Gives (λ area. (area, self.new)) result (out_area_at self.old) }
@@ -190,14 +190,14 @@ impl<'a> Line<'a> {
     }
 }
 
-/// Whether bytes are a text of so many characters.
+/// Returns whether bytes are a text of so many characters.
 fn is_text_of(least: usize, most: usize, bytes: &[u8]) -> bool
     ensures { result ≡ is_text_of least most bytes.now }
 {
     least <= bytes.len() && bytes.len() <= most && is_text(bytes)
 }
 
-/// The name that a word is.
+/// Returns the name that a word is.
 #[tactic(auto, unfolding(crate::specs::Reading::name_of))]
 pub(crate) fn name_of(word: &[u8]) -> Result<Name, Unread>
     ensures { Gives (λ name. name) result (name_of word.now) }
@@ -208,7 +208,7 @@ pub(crate) fn name_of(word: &[u8]) -> Result<Name, Unread>
     }
 }
 
-/// How many bytes stand before the first space.
+/// Returns how many bytes stand before the first space.
 fn word_length(bytes: &[u8]) -> usize
     ensures length { result ≡ position_or_len is_space bytes.now }
     ensures within { result ≤ length bytes.now }
@@ -222,7 +222,7 @@ fn first_space(bytes: &[u8]) -> Option<usize>
     bytes.iter().position(|byte| *byte == b' ')
 }
 
-/// The content of the counted field at the front, and what comes after it.
+/// Returns the content of the counted field at the front, and what comes after it.
 fn split_counted(bytes: &[u8]) -> Option<(&[u8], &[u8])>
     ensures { option_map (λ found. (found.0.now, found.1.now)) result ≡ split_counted bytes.now }
 {
@@ -230,7 +230,7 @@ fn split_counted(bytes: &[u8]) -> Option<(&[u8], &[u8])>
     Some((&bytes[from..past], &bytes[past..]))
 }
 
-/// The number from `least` to `most` that a word writes without a leading zero.
+/// Returns the number from `least` to `most` that a word writes without a leading zero.
 pub(crate) fn number_in(least: u64, most: u64, word: &[u8]) -> Option<u64>
     requires { most < 10 ^ 18 }
     ensures number { result ≡ number_in least most word.now }

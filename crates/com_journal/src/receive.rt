@@ -15,7 +15,7 @@ use com_msg::{Kind, MAX_SIZE};
 use com_text::{Rows, Text};
 use std::alloc::{AllocError, Global};
 
-/// A RECEIVE, after its verb.
+/// Takes a RECEIVE, after its verb.
 #[tactic(auto, unfolding(crate::specs::Reading::receive_at))]
 pub(crate) fn read_call(line: &mut Line<'_>) -> Result<Call, Unread>
     ensures { Gives (λ call. (call, line.new)) result (receive_at line.old) }
@@ -32,7 +32,7 @@ pub(crate) fn read_call(line: &mut Line<'_>) -> Result<Call, Unread>
     })
 }
 
-/// What a RECEIVE is answered.
+/// Takes what a RECEIVE is answered.
 #[tactic(auto, unfolding(crate::specs::Reading::received_at))]
 pub(crate) fn read_reply(alloc: Global, line: &mut Line<'_>) -> Result<Reply, Unread>
     ensures { Gives (λ reply. (reply, line.new)) result (received_at line.old) }

@@ -15,7 +15,7 @@ use std::alloc::{AllocError, Global};
 /// How many characters the names have that START hands over.
 const NAMES_LENGTH: usize = 48;
 
-/// The reply to a call.
+/// Takes the reply to a call.
 #[tactic(auto, unfolding(crate::specs::Reading::reply_at))]
 pub(crate) fn read(alloc: Global, call: &Call, line: &mut Line<'_>) -> Result<Reply, Unread>
     ensures { Gives (λ reply. (reply, line.new)) result (reply_at call.now line.old) }
@@ -45,7 +45,7 @@ fn names(line: &mut Line<'_>) -> Result<Option<[u8; NAMES_LENGTH]>, Unread>
     names_of(line.counted()?)
 }
 
-/// The four names, or none where there is no character.
+/// Returns the four names, or none if there are no characters.
 #[tactic(auto, unfolding(crate::specs::Reading::names_of))]
 fn names_of(content: &[u8]) -> Result<Option<[u8; NAMES_LENGTH]>, Unread>
     ensures { Gives (λ names. names) result (names_of content.now) }

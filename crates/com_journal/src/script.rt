@@ -19,8 +19,8 @@ use std::alloc::{AllocError, Global};
 
 const HEADER: &[u8; 12] = b"MCS-SCRIPT 1";
 
-/// The call whose text a line of a script is, without its line feed. None exactly if it is no
-/// call's text.
+/// Returns the call whose text a line of a script is, without its line feed. None exactly if it is
+/// no call's text.
 pub fn call_line(alloc: Global, bytes: &[u8]) -> Result<Option<(Party, Call)>, AllocError>
     ensures found { IfOk result (λ found.
         IfSome found (λ call. IsCallText call.0 call.1 bytes.now)) }
@@ -34,7 +34,8 @@ pub fn call_line(alloc: Global, bytes: &[u8]) -> Result<Option<(Party, Call)>, A
     }
 }
 
-/// The lines of a script after its header. None exactly if the first line is not the header.
+/// Returns the lines of a script after its header. None exactly if the first line is not the
+/// header.
 pub fn script_lines(bytes: &[u8]) -> Option<Lines<'_>>
     ensures lines { IfSome result
         (λ lines. lines_of bytes.now ≡ script_header ∷ lines_of lines) }
@@ -53,12 +54,12 @@ pub fn script_lines(bytes: &[u8]) -> Option<Lines<'_>>
     }
 }
 
-/// The calls of a script, in order, or the fault of the first line that is refused.
+/// Returns the calls of a script, in order, or the fault of the first line that is refused.
 pub fn read_calls(alloc: Global, bytes: &[u8]) -> Result<Rows<(Party, Call)>, JournalError>
     // What is read are the script's calls, and a fault is that of the bytes.
     ensures read { IfOk result (λ calls. IsScript calls bytes.now) }
     ensures refused { IfErr result (Tells (IsScriptFault bytes.now)) }
-    // A script is read, and a fault is told, unless memory runs out.
+    // A script is read, and a fault is reported, unless memory runs out.
     ensures each_script { (calls : List (AParty × ACall)) → IsScript calls bytes.now
         → MatchResult result (Is calls) IsMemory }
     ensures each_fault { (fault : AFault) → IsScriptFault bytes.now fault
@@ -83,7 +84,7 @@ fn is_header(line: &[u8]) -> bool
     line == HEADER.as_slice()
 }
 
-/// The calls of the lines after the header.
+/// Takes the calls of the lines after the header.
 fn read_lines(alloc: Global, lines: &mut Lines<'_>) -> Result<Rows<(Party, Call)>, JournalError>
     requires { length lines.old < 2 ^ 63 }
     ensures read { IfOk result (λ calls. AreCalls calls (lines_of lines.old)) }
@@ -101,7 +102,7 @@ fn read_lines(alloc: Global, lines: &mut Lines<'_>) -> Result<Rows<(Party, Call)
     Ok(calls)
 }
 
-/// The call of a line after the header.
+/// Returns the call of a line after the header.
 fn call_in(alloc: Global, line: &[u8], number: u64) -> Result<(Party, Call), JournalError>
     ensures call { IfOk result (λ call. IsCallText call.0 call.1 line.now) }
     ensures refused { IfErr result (Tells (IsNoCall number line.now)) }

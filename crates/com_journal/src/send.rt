@@ -14,7 +14,7 @@ use com_msg::{Advance, MAX_ITEM_LENGTH, MAX_LINES, Part};
 use com_text::{Rows, Text, put_number};
 use std::alloc::{AllocError, Global};
 
-/// A SEND, after its verb.
+/// Takes a SEND, after its verb.
 #[tactic(auto, unfolding(crate::specs::Reading::send_at))]
 pub(crate) fn read_call(alloc: Global, line: &mut Line<'_>) -> Result<Call, Unread>
     ensures { Gives (λ call. (call, line.new)) result (send_at line.old) }
@@ -36,7 +36,7 @@ fn part(line: &mut Line<'_>) -> Result<Part, Unread>
     indicator(word, line)
 }
 
-/// An indicator with its advance, after its word.
+/// Takes an indicator with its advance, after its word.
 #[tactic(auto, unfolding(crate::specs::Reading::indicator_at))]
 fn indicator(word: &[u8], line: &mut Line<'_>) -> Result<Part, Unread>
     ensures { Gives (λ part. (part, line.new)) result (indicator_at word.now line.old) }
@@ -74,7 +74,7 @@ fn advance_of(word: &[u8]) -> Result<Advance, Unread>
     }
 }
 
-/// How far the terminal advances after the text.
+/// Returns how far the terminal advances after the text.
 #[tactic(auto, unfolding(crate::specs::Reading::advance_by))]
 fn before(how: &[u8]) -> Result<Advance, Unread>
     ensures { Gives (λ advance. advance) result
@@ -89,7 +89,7 @@ fn before(how: &[u8]) -> Result<Advance, Unread>
     }
 }
 
-/// How far the terminal advances before the text.
+/// Returns how far the terminal advances before the text.
 #[tactic(auto, unfolding(crate::specs::Reading::advance_by))]
 fn after(how: &[u8]) -> Result<Advance, Unread>
     ensures { Gives (λ advance. advance) result

@@ -30,14 +30,14 @@ impl<'a> Model for Lines<'a> {
 }
 
 impl<'a> Lines<'a> {
-    /// The lines of these bytes.
+    /// Returns the lines of these bytes.
     pub fn new(bytes: &'a [u8]) -> Lines<'a>
         ensures { result ≡ bytes.now }
     {
         Lines { rest: bytes }
     }
 
-    /// The next line, or None at the end.
+    /// Takes the next line, or None at the end.
     pub fn next_line(&mut self) -> Option<TextLine<'a>>
         ensures none { IfNone result (self.old ≡ []) }
         ensures line { IfSome result
@@ -67,7 +67,7 @@ impl<'a> Lines<'a> {
     }
 }
 
-/// How many bytes stand before the first line feed.
+/// Returns how many bytes stand before the first line feed.
 fn line_length(bytes: &[u8]) -> usize
     ensures length { result ≡ position_or_len is_line_feed bytes.now }
     ensures within { result ≤ length bytes.now }

@@ -14,7 +14,7 @@ use com_events::{Call, MAX_KEY_LENGTH};
 use com_text::{Rows, Text};
 use std::alloc::{AllocError, Global};
 
-/// An ENABLE (`on`) or DISABLE, after its verb.
+/// Takes an ENABLE (`on`) or DISABLE, after its verb.
 #[tactic(auto, unfolding(crate::specs::Reading::switch_at))]
 pub(crate) fn read_call(alloc: Global, on: bool, line: &mut Line<'_>) -> Result<Call, Unread>
     ensures { Gives (λ call. (call, line.new)) result (switch_at on line.old) }

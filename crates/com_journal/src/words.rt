@@ -30,7 +30,7 @@ pub(crate) fn kind_word(kind: Kind) -> &'static [u8]
     }
 }
 
-/// Whether NO DATA is written.
+/// Returns whether NO DATA is written.
 #[tactic(auto, unfolding(crate::specs::Choices::wait_of))]
 pub(crate) fn wait_of(word: &[u8]) -> Result<bool, Unread>
     ensures { Gives (λ no_data. no_data) result (wait_of word.now) }
@@ -50,7 +50,7 @@ pub(crate) fn wait_word(no_data: bool) -> &'static [u8]
     if no_data { b"NODATA" } else { b"WAIT" }
 }
 
-/// Whether something is enabled.
+/// Returns whether something is enabled.
 #[tactic(auto, unfolding(crate::specs::Choices::switch_of))]
 pub(crate) fn switch_of(word: &[u8]) -> Result<bool, Unread>
     ensures { Gives (λ on. on) result (switch_of word.now) }
@@ -70,7 +70,7 @@ pub(crate) fn switch_word(on: bool) -> &'static [u8]
     if on { b"ENABLE" } else { b"DISABLE" }
 }
 
-/// Whether TERMINAL is written.
+/// Returns whether TERMINAL is written.
 #[tactic(auto, unfolding(crate::specs::Choices::input_of))]
 pub(crate) fn input_of(word: &[u8]) -> Result<bool, Unread>
     ensures { Gives (λ terminal. terminal) result (input_of word.now) }
@@ -178,7 +178,7 @@ pub(crate) fn frame_of(word: &[u8]) -> Result<FrameKind, Unread>
     }
 }
 
-/// The word for what is wrong with an input.
+/// Returns the word for what is wrong with an input.
 pub fn frame_word(kind: FrameKind) -> &'static [u8]
     ensures { result.now ≡ frame_word kind }
 {

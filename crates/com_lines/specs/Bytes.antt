@@ -25,7 +25,7 @@ is_skipped Lines byte = byte == 13
 abbrev pub is_kept : Framing → ℕ → Bool
 is_kept framing byte = not (is_skipped framing byte)
 
--- the last byte, or 0 where there is none
+-- the last byte, or 0 if there is none yet
 abbrev pub last_of : List ℕ → ℕ
 last_of [] = 0
 last_of (byte ∷ []) = byte

@@ -20,7 +20,7 @@ pub(crate) const GROUP_END: u8 = 0x04;
 /// LF, which may follow EMI and EGI.
 pub(crate) const LINE_FEED: u8 = 0x0A;
 
-/// The bytes that frame the messages by marks, with LF after each message. Fails only if
+/// Returns the bytes that frame the messages by marks, with LF after each message. Fails only if
 /// memory runs out.
 pub fn encode(alloc: Global, messages: &[RawMessage]) -> Result<Rows<u8>, AllocError>
     requires limits { All IsWithinLimits messages.now }
@@ -35,7 +35,7 @@ pub fn encode(alloc: Global, messages: &[RawMessage]) -> Result<Rows<u8>, AllocE
     Ok(Rows::of_vec(bytes))
 }
 
-/// Whether each message is within the limits and has a segment, as [`encode`] asks.
+/// Returns whether each message is within the limits and has a segment, as [`encode`] asks.
 pub fn are_within_limits(messages: &[RawMessage]) -> bool
     ensures { IsTrue result ↔ All IsWithinLimits messages.now }
 {

@@ -46,7 +46,7 @@ impl Model for Framer {
 }
 
 impl Framer {
-    /// A framer that has had no bytes.
+    /// Returns a framer that has had no bytes.
     pub fn new(alloc: Global, framing: Framing) -> Framer
         ensures stands { StandsFor framing result [] [] }
         ensures going { IsGoing result }
@@ -137,7 +137,7 @@ impl Framer {
     }
 }
 
-/// How a framer stands after a piece.
+/// Returns how a framer stands after a piece.
 fn state_after(answer: &Result<(), FeedError>) -> State
     ensures { result ≡ state_after answer.now }
 {
@@ -148,7 +148,7 @@ fn state_after(answer: &Result<(), FeedError>) -> State
     }
 }
 
-/// How a framer stands after the end of its input.
+/// Returns how a framer stands after the end of its input.
 fn state_at_end(answer: &Result<(), FeedError>) -> State
     ensures { result ≡ state_at_end answer.now }
 {
@@ -181,7 +181,7 @@ fn feed_into(
     result
 }
 
-/// Whether an answer is out of memory.
+/// Returns whether an answer is out of memory.
 fn is_memory(answer: &Result<(), FeedError>) -> bool
     ensures { IsTrue result ↔ IsMemory answer.now }
 {

@@ -49,7 +49,7 @@ pub(crate) struct Reading {
     framing: Framing,
     /// How many bytes were read.
     at: u64,
-    /// The last byte, or 0 where there is none.
+    /// the last byte, or 0 if there is none yet.
     last: u8,
     /// How many messages were given.
     given: usize,
@@ -62,7 +62,7 @@ pub(crate) struct Reading {
 }
 
 impl Reading {
-    /// No byte was read.
+    /// Returns no byte was read.
     pub(crate) fn new(alloc: Global, framing: Framing) -> Reading
         ensures safe { IsSafe result }
         ensures none { HasRead result [] [] }
@@ -79,7 +79,7 @@ impl Reading {
         }
     }
 
-    /// Whether the last byte is a CR of lines, of which the next byte decides.
+    /// Returns whether the last byte is a CR of lines, of which the next byte decides.
     fn holds_return(&self) -> bool
         ensures { result ≡ holds_return self.now }
     {
@@ -89,7 +89,8 @@ impl Reading {
         }
     }
 
-    /// What is wrong with the byte that comes next. A CR of lines is taken to stand before an LF.
+    /// Returns what is wrong with the byte that comes next. A CR of lines is taken to stand before
+    /// an LF.
     fn next_kind(&self, byte: u8) -> Option<FrameKind>
         ensures { result ≡ next_kind self.now byte }
     {
@@ -107,7 +108,7 @@ impl Reading {
         }
     }
 
-    /// The fault that a byte shows which comes next: None where it shows none.
+    /// Returns the fault that a byte shows which comes next: None where it shows none.
     fn next_fault(&self, byte: u8) -> Option<FrameFault>
         requires safe { IsSafe self.now }
         ensures right { IsNone result → next_kind self.now byte ≡ None }
@@ -168,7 +169,7 @@ impl Reading {
         add_message(messages, message)
     }
 
-    /// The fault of the input, where it ends here: None where it may.
+    /// Returns the fault of the input, where it ends here: None where it may.
     fn end_fault(&self) -> Option<FrameFault>
         requires safe { IsSafe self.now }
         ensures none { IsNone result → CanEnd self.now }
@@ -197,7 +198,7 @@ impl Reading {
         }
     }
 
-    /// Whether bytes of a message were read that has not ended.
+    /// Returns whether bytes of a message were read that has not ended.
     fn has_open(&self) -> bool
         ensures { result ≡ has_open self.now }
     {
@@ -347,7 +348,7 @@ fn add_message(messages: &mut Rows<RawMessage>, message: RawMessage) -> Result<(
         .map_err(|(_, error)| FeedError::Memory(error))
 }
 
-/// Whether the framing does not allow a byte directly after the last.
+/// Returns whether the framing does not allow a byte directly after the last.
 fn is_bad_byte(framing: Framing, last: u8, byte: u8) -> bool
     ensures { result ≡ is_bad_byte framing last byte 10 }
 {
@@ -361,7 +362,7 @@ fn is_bad_byte(framing: Framing, last: u8, byte: u8) -> bool
     }
 }
 
-/// Whether a byte stands between two segments.
+/// Returns whether a byte stands between two segments.
 fn is_between(framing: Framing, byte: u8) -> bool
     ensures { result ≡ is_between framing byte }
 {
@@ -371,14 +372,15 @@ fn is_between(framing: Framing, byte: u8) -> bool
     }
 }
 
-/// Whether a byte is one more character than a segment may have.
+/// Returns whether a byte is one more character than a segment may have.
 fn is_long_segment(length: usize, byte: u8) -> bool
     ensures { result ≡ is_long_segment length byte }
 {
     is_text_byte(byte) && length >= MAX_SEGMENT_LENGTH
 }
 
-/// Whether a byte is one more character than a message may have, or begins one more segment.
+/// Returns whether a byte is one more character than a message may have, or begins one more
+/// segment.
 fn is_long_message(framing: Framing, characters: usize, betweens: usize, byte: u8) -> bool
     ensures { result ≡ is_long_message framing characters betweens byte }
 {
@@ -391,14 +393,14 @@ fn is_long_message(framing: Framing, characters: usize, betweens: usize, byte: u
     }
 }
 
-/// Whether a byte ends one more message than an input may have.
+/// Returns whether a byte ends one more message than an input may have.
 fn is_too_many(framing: Framing, given: usize, byte: u8) -> bool
     ensures { result ≡ is_too_many framing given byte }
 {
     end_of(framing, byte).is_some() && given >= MAX_MESSAGES
 }
 
-/// How a byte ends a message: None where it does not.
+/// Returns how a byte ends a message: None where it does not.
 fn end_of(framing: Framing, byte: u8) -> Option<End>
     ensures { result ≡ end_of framing byte }
 {

@@ -64,7 +64,7 @@ fn add_segment(segment: &OutSegment, bytes: &mut Rows<u8>) -> Result<(), AllocEr
     }
 }
 
-/// Adds so many line feeds at the end. If memory runs out, some of them may have been added.
+/// Adds `count` line feeds at the end. If memory runs out, some of them may have been added.
 #[tactic(auto, using(crate::proofs::Fronts::front_of))]
 fn add_line_feeds(lines: u8, bytes: &mut Rows<u8>) -> Result<(), AllocError>
     ensures ok { OnOk result (bytes.new ≡ bytes.old ++ line_feeds lines) }

@@ -35,7 +35,7 @@ impl Model for Open {
 }
 
 impl Open {
-    /// A message of which nothing is begun.
+    /// Returns a message of which nothing is begun.
     pub fn new(alloc: Global) -> Open
         ensures { result.begun ≡ nothing_begun }
     {
@@ -45,7 +45,7 @@ impl Open {
         }
     }
 
-    /// Whether nothing is begun.
+    /// Returns whether nothing is begun.
     pub fn is_empty(&self) -> bool
         ensures { IsTrue result ↔ (self.now.begun ≡ nothing_begun) }
     {

@@ -1,4 +1,4 @@
-//! How bytes from a terminal are messages, and what is wrong with bytes that are none.
+//! How bytes from a terminal are messages, and what is wrong with bytes that are not.
 
 /// How a terminal marks the ends of its segments and messages.
 #[derive(Clone, Copy, Debug, PartialEq, Eq)]

@@ -49,7 +49,7 @@ pub struct Message {
 }
 
 impl RawMessage {
-    /// An equal message. Fails only if memory runs out.
+    /// Returns an equal message. Fails only if memory runs out.
     pub fn copy(&self) -> Result<RawMessage, AllocError>
         ensures { IfOk result (λ message. message ≡ self.now) }
     {
@@ -59,8 +59,8 @@ impl RawMessage {
         })
     }
 
-    /// Whether the message has a segment and is within the limits of a message from a terminal:
-    /// [`MAX_SEGMENTS`], [`MAX_SEGMENT_LENGTH`] and [`MAX_MESSAGE_LENGTH`].
+    /// Returns whether the message has a segment and is within the limits of a message from a
+    /// terminal: [`MAX_SEGMENTS`], [`MAX_SEGMENT_LENGTH`] and [`MAX_MESSAGE_LENGTH`].
     pub fn is_within_limits(&self) -> bool
         ensures { IsTrue result ↔ IsWithinLimits self.now }
     {
@@ -70,7 +70,7 @@ impl RawMessage {
     }
 }
 
-/// Whether each segment is within the limit.
+/// Returns whether each segment is within the limit.
 fn are_short(segments: &[Text]) -> bool
     ensures { IsTrue result ↔ All (λ segment. length segment ≤ MAX_SEGMENT_LENGTH) segments.now }
 {

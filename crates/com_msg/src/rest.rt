@@ -61,7 +61,7 @@ impl Model for Rest {
 }
 
 impl Rest {
-    /// The whole of a message, of one segment or more.
+    /// Returns the whole of a message, of one segment or more.
     pub fn of(message: Message) -> Rest
         requires not_empty { 1 ≤ length message.segments }
         ensures { result ≡ message }
@@ -73,14 +73,14 @@ impl Rest {
         Rest { message, place }
     }
 
-    /// The terminal that the message came from.
+    /// Returns the terminal that the message came from.
     pub fn source(&self) -> Name
         ensures { result ≡ self.now.source }
     {
         self.message.source
     }
 
-    /// The number of the message among all arrivals.
+    /// Returns the number of the message among all arrivals.
     pub fn arrival(&self) -> u64
         ensures { result ≡ self.now.arrival }
     {
@@ -94,7 +94,7 @@ impl Rest {
         self.message.stamp
     }
 
-    /// Whether nothing is left, not even an empty segment.
+    /// Returns whether nothing is left, not even an empty segment.
     pub fn is_spent(&self) -> bool
         ensures { IsTrue result ↔ (self.now.segments ≡ []) }
     {
@@ -186,7 +186,7 @@ impl Rest {
     }
 }
 
-/// The END KEY of a message's last segment.
+/// Returns the END KEY of a message's last segment.
 fn last_key(end: End) -> u8
     ensures { result ≡ last_key end }
 {
@@ -196,8 +196,8 @@ fn last_key(end: End) -> u8
     }
 }
 
-/// The first characters of the joined pieces, `size` of them or all, where the first piece counts
-/// without the `taken` characters at its front.
+/// Returns the first characters of the joined pieces, `size` of them or all, where the first piece
+/// counts without the `taken` characters at its front.
 fn first_characters(
     alloc: Global,
     pieces: &[Text],
@@ -223,7 +223,7 @@ fn first_characters(
     Ok(Text::of_vec(bytes))
 }
 
-/// Whether the joined pieces have more characters than `reach`.
+/// Returns whether the joined pieces have more characters than `reach`.
 pub fn is_longer(pieces: &[Text], reach: usize) -> bool
     ensures { result ≡ nat_lt reach (length (concat pieces.now)) }
 {
@@ -238,8 +238,8 @@ pub fn is_longer(pieces: &[Text], reach: usize) -> bool
     false
 }
 
-/// The place after the first `reach` characters of the pieces. Once none is due, nothing more is
-/// passed, not even an empty piece.
+/// Returns the place after the first `reach` characters of the pieces. Once none is due, nothing
+/// more is passed, not even an empty piece.
 fn place_behind(pieces: &[Text], reach: usize) -> Place
     ensures left { pieces_at result pieces.now ≡ drop_characters reach pieces.now }
     ensures within { IsPlace result pieces.now }
@@ -261,7 +261,7 @@ fn place_behind(pieces: &[Text], reach: usize) -> Place
     }
 }
 
-/// A text of some characters of a text.
+/// Returns a text of some characters of a text.
 fn text_of(alloc: Global, characters: &[u8]) -> Result<Text, AllocError>
     requires { IsText characters.now }
     ensures characters { IfOk result (λ text. text ≡ characters.now) }

@@ -33,7 +33,7 @@ impl Model for Segments {
 }
 
 impl Segments {
-    /// The segments of a `Vec`.
+    /// Returns the segments of a `Vec`.
     pub fn of_vec(segments: Vec<OutSegment>) -> Segments
         ensures { result ≡ segments.items }
     {
@@ -42,7 +42,7 @@ impl Segments {
         }
     }
 
-    /// One segment, which others have too.
+    /// Returns one segment, which others have too.
     pub(crate) fn shared(segment: Arc<OutSegment>) -> Segments
         ensures { result ≡ arc_value segment ∷ [] }
     {
@@ -51,7 +51,7 @@ impl Segments {
         }
     }
 
-    /// The segments.
+    /// Returns the segments.
     pub fn as_slice(&self) -> &[OutSegment]
         ensures { result.now ≡ self.now }
     {

@@ -14,9 +14,9 @@ pub const MAX_ITEM_LENGTH: usize = 2_000;
 /// How far a terminal advances, and whether before or after a text.
 #[derive(Clone, Copy, Debug, PartialEq, Eq)]
 pub enum Advance {
-    /// The text stands before so many line feeds, 0 to 99.
+    /// The text comes before that many line feeds, 0 to 99.
     Before(u8),
-    /// The text stands after so many line feeds, 0 to 99.
+    /// The text comes after that many line feeds, 0 to 99.
     After(u8),
     /// The text stands before a form feed.
     BeforePage,
@@ -25,7 +25,7 @@ pub enum Advance {
 }
 
 impl Advance {
-    /// Whether it is by [`MAX_LINES`] lines at most, or to a page.
+    /// Returns whether it is by [`MAX_LINES`] lines at most, or to a page.
     pub fn is_within_limits(self) -> bool
         ensures { IsTrue result ↔ IsAdvance self }
     {
@@ -68,7 +68,7 @@ pub struct OutMessage {
 }
 
 impl OutMessage {
-    /// Whether a terminal can be sent it: each of its advances is within the limits.
+    /// Returns whether a terminal can be sent it: each of its advances is within the limits.
     pub fn is_renderable(&self) -> bool
         ensures { IsTrue result ↔ IsRenderable self.now }
     {

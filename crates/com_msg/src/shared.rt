@@ -31,8 +31,8 @@ impl Model for SharedMessage {
 }
 
 impl SharedMessage {
-    /// The message of this text alone, which is written with this advance. The only error is want
-    /// of memory.
+    /// Returns the message of this text alone, which is written with this advance. The only error
+    /// is want of memory.
     pub fn new(
         alloc: Global,
         text: &[u8],
@@ -50,7 +50,7 @@ impl SharedMessage {
         }
     }
 
-    /// The message for one more terminal. Fails only if memory runs out.
+    /// Returns the message for one more terminal. Fails only if memory runs out.
     pub fn message(&self) -> Result<OutMessage, AllocError>
         ensures { IfOk result (λ message. message ≡ self.now) }
     {

@@ -28,8 +28,8 @@ impl Model for Stamp {
 }
 
 impl Stamp {
-    /// The stamp with these digits. None exactly if a byte is no digit, the month is not 01 to
-    /// 12, the day not 01 to 31, the hour above 23, or the minute or the second above 59.
+    /// Returns the stamp with these digits. None exactly if a byte is not a digit, the month is not
+    /// 01 to 12, the day not 01 to 31, the hour above 23, or the minute or the second above 59.
     pub fn new(date: &[u8; 6], time: &[u8; 8]) -> Option<Stamp>
         ensures some { IsSome result ↔ IsMoment (moment date.now time.now) }
         ensures stamp { IfSome result (λ stamp. stamp ≡ moment date.now time.now) }
@@ -64,7 +64,7 @@ impl Stamp {
     }
 }
 
-/// Whether each byte is a digit.
+/// Returns whether each byte is a digit.
 fn has_digits(bytes: &[u8]) -> bool
     ensures { result ≡ all_ascii_digits bytes.now }
 {
@@ -76,7 +76,7 @@ fn has_digits(bytes: &[u8]) -> bool
     true
 }
 
-/// Whether the month and the day of YYMMDD are within their bounds.
+/// Returns whether the month and the day of YYMMDD are within their bounds.
 fn is_date(date: &[u8; 6]) -> bool
     requires { IsTrue (all_ascii_digits date.now) }
     ensures { result ≡ is_date date.now }
@@ -84,7 +84,7 @@ fn is_date(date: &[u8; 6]) -> bool
     is_pair_within(date, 2, 1, 12) && is_pair_within(date, 4, 1, 31)
 }
 
-/// Whether the hour, the minute and the second of HHMMSSTT are within their bounds.
+/// Returns whether the hour, the minute and the second of HHMMSSTT are within their bounds.
 fn is_time(time: &[u8; 8]) -> bool
     requires { IsTrue (all_ascii_digits time.now) }
     ensures { result ≡ is_time time.now }
@@ -94,7 +94,7 @@ fn is_time(time: &[u8; 8]) -> bool
         && is_pair_within(time, 4, 0, 59)
 }
 
-/// Whether the two digits at a place write a number from `low` to `high`.
+/// Returns whether the two digits at a place write a number from `low` to `high`.
 fn is_pair_within(digits: &[u8], at: usize, low: u64, high: u64) -> bool
     requires within { at + 2 ≤ length digits.now }
     requires digits { IsTrue (all_ascii_digits digits.now) }

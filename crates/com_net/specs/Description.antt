@@ -129,7 +129,7 @@ abbrev pub net_of : List ℕ → Option Parts
 net_of bytes =
     if is_none (net_fault_of bytes) then option_map parts_of (document_of bytes) else None
 
--- a refusal tells this fault; out of memory tells nothing
+-- a refusal reports this fault; if memory ran out, nothing is said
 abbrev pub IsRefusalBy : Option (NetKind × List ℕ) → NetError → Type 0
 IsRefusalBy found (Refused fault) = found ≡ Some (fault.kind, fault.path)
 IsRefusalBy found (Memory error) = Unit {0}

@@ -74,7 +74,7 @@ abbrev pub bad_text : (List ℕ → Bool) → Data → Option (List ℕ)
 bad_text test (string text) = unless (test text)
 bad_text test _ = None
 
--- the number of the first part that is no name, after a period
+-- the number of the first part that is not a name, after a period
 abbrev pub bad_part : ℕ → List (List ℕ) → Option (List ℕ)
 bad_part number [] = None
 bad_part number (part ∷ parts) =

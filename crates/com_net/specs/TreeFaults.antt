@@ -62,7 +62,8 @@ row_paths place = elim (queue_rows place.section place.table) [
 abbrev pub path_of_row : List Place → ℕ → List ℕ
 path_of_row places row = unwrap_or (slice_get (flat_map row_paths places) row) (codes "queue")
 
--- where a fault of the trees is told: an empty tree at the array that is empty, others at the node
+-- where a fault of the trees is reported: an empty tree at the array that is empty, others at the
+-- node
 abbrev pub tree_path : List Place → ℕ → TreeFault → List ℕ
 tree_path places row tree.Empty = elim (slice_get (flat_map row_paths places) row) [
   | None ↦ codes "queue"

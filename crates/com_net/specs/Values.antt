@@ -15,7 +15,7 @@ value_at wanted content = get_member (key_text wanted) content
 abbrev pub has : Key → Members → Bool
 has wanted content = is_some (value_at wanted content)
 
--- a string; another value is no text
+-- a string; another value is not a text
 abbrev pub text_in : Data → List ℕ
 text_in value = unwrap_or (as_str value) []
 

@@ -21,21 +21,21 @@ pub enum NetKind {
     WrongKind,
     /// The table has no such key at this place.
     UnknownKey,
-    /// A name, a part of a path or a file name is none.
+    /// A name, a part of a path or a file name is malformed.
     BadName,
     /// Two terminals, two units, or a terminal and a top queue have one name.
     TwiceNamed,
-    /// The queues are no trees.
+    /// The queues do not make trees.
     BadTree(TreeFault),
     /// A route leads to no leaf, or a schedule to no node.
     BadRoute,
-    /// A password is none.
+    /// A password is malformed.
     BadPassword,
     /// There are too many terminals or units, or none, or the description is too long.
     OverLimit,
 }
 
-/// The first kind of fault that there is, and its first place.
+/// The first kind of fault that occurs, and its first place.
 #[derive(Debug, Drop)]
 pub struct NetFault {
     pub kind: NetKind,

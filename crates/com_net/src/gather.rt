@@ -32,7 +32,7 @@ pub struct Gathered {
     pub units: Vec<UnitRow>,
 }
 
-/// The lists that tables without a fault give.
+/// Returns the lists that tables without a fault give.
 pub fn gather(alloc: Global, tree: &Tree, places: &[TableAt<'_>]) -> Result<Gathered, AllocError>
     requires names { list_all has_names (map seen places.now) ≡ true }
     requires passwords { list_all has_password (map seen places.now) ≡ true }
@@ -52,7 +52,7 @@ pub fn gather(alloc: Global, tree: &Tree, places: &[TableAt<'_>]) -> Result<Gath
 }
 
 impl Gathered {
-    /// The network of these lists and the tree.
+    /// Returns the network of these lists and the tree.
     pub fn into_net(self, alloc: Global, tree: Tree) -> Result<Net, AllocError>
         requires { IsNet (gathered_parts tree self) }
         ensures { IfOk result (λ net. net ≡ gathered_parts tree self) }
@@ -117,7 +117,7 @@ impl Gathered {
     }
 }
 
-/// The terminal that a table describes.
+/// Returns the terminal that a table describes.
 fn terminal_of(alloc: Global, tree: &Tree, table: &Table) -> Result<Terminal, AllocError>
     requires name { is_name (string_at key.Name (table_view table.now)) ≡ true }
     requires password { is_password (string_at key.Password (table_view table.now)) ≡ true }
@@ -134,7 +134,7 @@ fn terminal_of(alloc: Global, tree: &Tree, table: &Table) -> Result<Terminal, Al
     })
 }
 
-/// Where a terminal's messages come from, where it has an input.
+/// Returns where a terminal's messages come from, where it has an input.
 fn feed_of(alloc: Global, tree: &Tree, table: &Table) -> Result<Option<Feed>, AllocError>
     requires input { has_input_name (table_view table.now) ≡ true }
     requires route { has_path key.Input key.Route (table_view table.now) ≡ true }
@@ -163,7 +163,7 @@ fn framing_of(table: &Table) -> Framing
     }
 }
 
-/// The unit that a table describes.
+/// Returns the unit that a table describes.
 fn unit_of(alloc: Global, tree: &Tree, table: &Table) -> Result<UnitRow, AllocError>
     requires name { is_name (string_at key.Name (table_view table.now)) ≡ true }
     requires source { is_file_name (string_at key.Source (table_view table.now)) ≡ true }
@@ -177,7 +177,7 @@ fn unit_of(alloc: Global, tree: &Tree, table: &Table) -> Result<UnitRow, AllocEr
     })
 }
 
-/// The node that starts a unit, where it has a schedule.
+/// Returns the node that starts a unit, where it has a schedule.
 fn schedule_of(tree: &Tree, table: &Table) -> Option<Node>
     requires { has_path key.Schedule key.Schedule (table_view table.now) ≡ true }
     ensures { result ≡ schedule_of tree.now (table_view table.now) }

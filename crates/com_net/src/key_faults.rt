@@ -31,14 +31,14 @@ pub enum Check {
     BadPassword,
 }
 
-/// The path of a key of a table.
+/// Returns the path of a key of a table.
 pub fn key_path(alloc: Global, at: &TableAt<'_>, key: Key) -> Result<Text, AllocError>
     ensures { IfOk result (λ text. text ≡ key_path (seen at.now) key) }
 {
     below(alloc, at.path.as_bytes(), key_text(key).as_bytes())
 }
 
-/// Whether a table may have a key, by what else it has.
+/// Returns whether a table may have a key, by what else it has.
 fn is_allowed(key: Key, table: &Table) -> bool
     ensures { result ≡ is_allowed (table_view table.now) key }
 {
@@ -50,7 +50,7 @@ fn is_allowed(key: Key, table: &Table) -> bool
     }
 }
 
-/// Whether a key is needed wherever it may stand.
+/// Returns whether a key is needed wherever it may stand.
 fn is_needed_key(key: Key) -> bool
     ensures { result ≡ is_needed_key key }
 {
@@ -65,14 +65,14 @@ fn is_needed_key(key: Key) -> bool
     }
 }
 
-/// Whether a key is needed in a table, and absent.
+/// Returns whether a key is needed in a table, and absent.
 fn is_missing(key: Key, table: &Table) -> bool
     ensures { result ≡ is_missing (table_view table.now) key }
 {
     is_needed_key(key) && is_allowed(key, table) && !has(key, table)
 }
 
-/// Whether a table may have a key, and has a value of another kind there.
+/// Returns whether a table may have a key, and has a value of another kind there.
 fn has_wrong_kind(key: Key, table: &Table) -> bool
     ensures { result ≡ has_wrong_kind (table_view table.now) key }
 {
@@ -85,7 +85,7 @@ fn has_wrong_kind(key: Key, table: &Table) -> bool
     }
 }
 
-/// The first key that is missing.
+/// Returns the first key that is missing.
 fn missing_key(section: Section, table: &Table) -> Option<Key>
     ensures { result ≡ find (is_missing (table_view table.now)) (keys_of section) }
 {
@@ -95,7 +95,7 @@ fn missing_key(section: Section, table: &Table) -> Option<Key>
         .find(|key| is_missing(*key, table))
 }
 
-/// The first key whose value is of another kind.
+/// Returns the first key whose value is of another kind.
 fn wrong_kind(section: Section, table: &Table) -> Option<Key>
     ensures { result ≡ find (has_wrong_kind (table_view table.now)) (keys_of section) }
 {
@@ -105,7 +105,7 @@ fn wrong_kind(section: Section, table: &Table) -> Option<Key>
         .find(|key| has_wrong_kind(*key, table))
 }
 
-/// Whether this is one of the keys, as it is written, and allowed in the table.
+/// Returns whether this is one of the keys, as it is written, and allowed in the table.
 fn is_known(keys: &[Key], table: &Table, name: &str) -> bool
     ensures { result ≡ is_known keys.now (table_view table.now) name.now }
 {
@@ -117,7 +117,7 @@ fn is_known(keys: &[Key], table: &Table, name: &str) -> bool
     false
 }
 
-/// The least key that the table does not have here.
+/// Returns the least key that the table does not have here.
 fn unknown_key<'a>(section: Section, table: &'a Table) -> Option<&'a str>
     ensures { option_map (λ name. name.now) result ≡ find
         (λ name. not (is_known (keys_of section) (table_view table.now) name))
@@ -131,7 +131,7 @@ fn unknown_key<'a>(section: Section, table: &'a Table) -> Option<&'a str>
     None
 }
 
-/// A key as it is shown.
+/// Returns a key as it is shown.
 fn shown(alloc: Global, name: &[u8]) -> Result<Text, AllocError>
     ensures { IfOk result (λ text. text ≡ shown name.now) }
 {
@@ -142,7 +142,7 @@ fn shown(alloc: Global, name: &[u8]) -> Result<Text, AllocError>
     Ok(Text::of_vec(bytes))
 }
 
-/// A byte as it is shown: itself, or a question mark.
+/// Returns a byte as it is shown: itself, or a question mark.
 fn shown_byte(byte: u8) -> u8
     ensures shown { result ≡ if is_text_byte byte then byte else 63 }
     ensures text { is_text_byte result ≡ true }
@@ -150,7 +150,7 @@ fn shown_byte(byte: u8) -> u8
     if is_text_byte(byte) { byte } else { b'?' }
 }
 
-/// The first fault of a kind in a table.
+/// Returns the first fault of a kind in a table.
 fn fault_at(alloc: Global, check: Check, at: &TableAt<'_>) -> Result<Option<Text>, AllocError>
     ensures { IfOk result (λ found. found ≡ fault_at check (seen at.now)) }
 {
@@ -163,7 +163,7 @@ fn fault_at(alloc: Global, check: Check, at: &TableAt<'_>) -> Result<Option<Text
     }
 }
 
-/// The path of a key, where there is one.
+/// Returns the path of a key, where there is one.
 pub fn path_of_key(
     alloc: Global,
     at: &TableAt<'_>,
@@ -177,7 +177,7 @@ pub fn path_of_key(
     }
 }
 
-/// The path of the least key that the table does not have here.
+/// Returns the path of the least key that the table does not have here.
 fn unknown_path(alloc: Global, at: &TableAt<'_>) -> Result<Option<Text>, AllocError>
     ensures { IfOk result (λ found. found ≡ unknown_key (seen at.now)) }
 {
@@ -190,7 +190,7 @@ fn unknown_path(alloc: Global, at: &TableAt<'_>) -> Result<Option<Text>, AllocEr
     }
 }
 
-/// The first name, part of a path or file name of a table that is none.
+/// Returns the first name, part of a path or file name of a table that is malformed.
 fn bad_name(alloc: Global, at: &TableAt<'_>) -> Result<Option<Text>, AllocError>
     ensures { IfOk result (λ found. found ≡ bad_name (seen at.now)) }
 {
@@ -202,7 +202,7 @@ fn bad_name(alloc: Global, at: &TableAt<'_>) -> Result<Option<Text>, AllocError>
     Ok(None)
 }
 
-/// The password of a table, where it is none.
+/// Returns the password of a table, if it is malformed.
 fn bad_password(alloc: Global, at: &TableAt<'_>) -> Result<Option<Text>, AllocError>
     ensures { IfOk result (λ found. found ≡ bad_password (seen at.now)) }
 {
@@ -214,7 +214,7 @@ fn bad_password(alloc: Global, at: &TableAt<'_>) -> Result<Option<Text>, AllocEr
     Ok(None)
 }
 
-/// The path of a bad name in the value at a key.
+/// Returns the path of a bad name in the value at a key.
 fn bad_name_at(alloc: Global, at: &TableAt<'_>, key: Key) -> Result<Option<Text>, AllocError>
     ensures { IfOk result (λ found. found ≡ bad_value_at bad_name_in (seen at.now) key) }
 {
@@ -224,7 +224,7 @@ fn bad_name_at(alloc: Global, at: &TableAt<'_>, key: Key) -> Result<Option<Text>
     }
 }
 
-/// The path of a bad password at a key.
+/// Returns the path of a bad password at a key.
 fn bad_password_at(alloc: Global, at: &TableAt<'_>, key: Key) -> Result<Option<Text>, AllocError>
     ensures { IfOk result (λ found. found ≡ bad_value_at bad_password_in (seen at.now) key) }
 {
@@ -234,7 +234,7 @@ fn bad_password_at(alloc: Global, at: &TableAt<'_>, key: Key) -> Result<Option<T
     }
 }
 
-/// The path of a key with what follows it, where there is something.
+/// Returns the path of a key with what follows it, where there is something.
 fn with_suffix(
     alloc: Global,
     at: &TableAt<'_>,
@@ -253,7 +253,7 @@ fn with_suffix(
     }
 }
 
-/// Where a value has a bad name: at the value itself, or at a part of it.
+/// Returns where a value has a bad name: at the value itself, or at a part of it.
 fn bad_name_in(alloc: Global, key: Key, value: &Value) -> Result<Option<Text>, AllocError>
     ensures { IfOk result (λ found. found ≡ bad_name_in key (view value.now)) }
 {
@@ -265,7 +265,7 @@ fn bad_name_in(alloc: Global, key: Key, value: &Value) -> Result<Option<Text>, A
     }
 }
 
-/// Where a value is a bad password.
+/// Returns where a value is a bad password.
 fn bad_password_in(alloc: Global, key: Key, value: &Value) -> Result<Option<Text>, AllocError>
     ensures { IfOk result (λ found. found ≡ bad_password_in key (view value.now)) }
 {
@@ -285,7 +285,7 @@ fn unless(alloc: Global, passes: bool) -> Result<Option<Text>, AllocError>
     Ok(Some(Text::of_vec(Vec::new(alloc))))
 }
 
-/// Whether a value is a name, if it is a string.
+/// Returns whether a value is a name, if it is a string.
 fn is_name_or_none(value: &Value) -> bool
     ensures { unless result ≡ bad_text is_name (view value.now) }
 {
@@ -295,7 +295,7 @@ fn is_name_or_none(value: &Value) -> bool
     }
 }
 
-/// Whether a value is a file name, if it is a string.
+/// Returns whether a value is a file name, if it is a string.
 fn is_file_name_or_none(value: &Value) -> bool
     ensures { unless result ≡ bad_text is_file_name (view value.now) }
 {
@@ -305,7 +305,7 @@ fn is_file_name_or_none(value: &Value) -> bool
     }
 }
 
-/// Whether a value is a password, if it is a string.
+/// Returns whether a value is a password, if it is a string.
 fn is_password_or_none(value: &Value) -> bool
     ensures { unless result ≡ bad_text is_password (view value.now) }
 {
@@ -315,7 +315,7 @@ fn is_password_or_none(value: &Value) -> bool
     }
 }
 
-/// The number of the first string that is no name, after a period.
+/// Returns the number of the first string that is not a name, after a period.
 fn bad_part(alloc: Global, values: &[Value]) -> Result<Option<Text>, AllocError>
     ensures { IfOk result (λ found. found ≡ bad_part 1 (strings_of (items_view values.now))) }
 {
@@ -331,7 +331,7 @@ fn bad_part(alloc: Global, values: &[Value]) -> Result<Option<Text>, AllocError>
     Ok(None)
 }
 
-/// The first fault of a kind in the tables of a document.
+/// Returns the first fault of a kind in the tables of a document.
 pub fn first_fault(
     alloc: Global,
     check: Check,

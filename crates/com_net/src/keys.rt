@@ -59,7 +59,7 @@ const SUB_QUEUE_KEYS: [Key; 4] = [Key::Name, Key::Children, Key::Choose, Key::En
 
 const UNIT_KEYS: [Key; 3] = [Key::Name, Key::Source, Key::Schedule];
 
-/// The keys that a table may have, in order.
+/// Returns the keys that a table may have, in order.
 pub fn keys_of(section: Section) -> &'static [Key]
     ensures { result.now ≡ keys_of section }
 {
@@ -75,7 +75,7 @@ pub fn keys_of(section: Section) -> &'static [Key]
     }
 }
 
-/// A key as it is written.
+/// Returns a key as it is written.
 pub fn key_text(key: Key) -> &'static str
     ensures key { result.now ≡ key_text key }
     ensures text { IsText result.now }

@@ -3,14 +3,13 @@
 //! [`Net::read`] reads a description, a TOML document of at most 1,048,576 bytes. It answers the
 //! network exactly if the description has no fault, and otherwise the first kind of fault in the
 //! order of [`NetKind`], at its first place in the walk: the document's own keys, the terminals,
-//! the queues in preorder, the units. Only out of memory can come in the place of either. A
-//! description has a network or a fault and never both
-//! ([`a_description_gives_a_network_or_a_fault`]).
+//! the queues in preorder, the units. The only other answer is that memory ran out. A description
+//! has a network or a fault and never both ([`a_description_gives_a_network_or_a_fault`]).
 //!
 //! Every [`Net`] has 1 to 32 terminals and 1 to 16 units with distinct names, file names, passwords
 //! and flags that are such, and routes and schedules that lead into its own trees. `terminal` and
-//! `unit` are the number of the one with a name, and None exactly if there is none. `copy` gives a
-//! network with the same parts.
+//! `unit` are the number of the one with a name, and None exactly if there is no such one. `copy`
+//! gives a network with the same parts.
 //!
 //! ```rust
 //! use com_net::{Net, NetError};

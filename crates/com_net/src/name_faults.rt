@@ -19,7 +19,7 @@ use indexmap::IndexSet;
 use std::alloc::{AllocError, Global};
 use toml::Table;
 
-/// The path of the first table with the name of one before it.
+/// Returns the path of the first table with the name of one before it.
 pub fn twice_named(alloc: Global, places: &[TableAt<'_>]) -> Result<Option<Text>, AllocError>
     ensures { IfOk result (λ found. found ≡ twice_named (map seen places.now)) }
 {
@@ -38,7 +38,7 @@ pub fn twice_named(alloc: Global, places: &[TableAt<'_>]) -> Result<Option<Text>
     Ok(None)
 }
 
-/// Whether a name was taken before; else it is taken from now on.
+/// Returns whether a name was taken before; otherwise it is taken from now on.
 fn clashes<'a>(
     section: Section,
     name: &'a str,
@@ -62,7 +62,7 @@ fn clashes<'a>(
     }
 }
 
-/// Where there are too many terminals or units, or none.
+/// Returns where there are too many terminals or units, or none.
 pub fn over_limit(document: &Table) -> Option<&'static str>
     ensures path { option_map (λ path. path.now) result ≡ over_limit (table_view document.now) }
     ensures text { IfSome result (λ path. IsText path.now) }
@@ -76,7 +76,7 @@ pub fn over_limit(document: &Table) -> Option<&'static str>
     }
 }
 
-/// Whether a number is not from 1 to a limit.
+/// Returns whether a number is not from 1 to a limit.
 fn is_over(limit: usize, number: usize) -> bool
     ensures { result ≡ is_over limit number }
 {

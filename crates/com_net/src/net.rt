@@ -85,7 +85,7 @@ impl Model for Net {
 }
 
 impl Net {
-    /// The network with these parts. Fails only if memory runs out.
+    /// Returns the network with these parts. Fails only if memory runs out.
     pub fn of(
         alloc: Global,
         terminals: Rows<Terminal>,
@@ -120,7 +120,7 @@ impl Net {
         })
     }
 
-    /// A network with the same parts. Fails only if memory runs out.
+    /// Returns a network with the same parts. Fails only if memory runs out.
     pub fn copy(&self) -> Result<Net, AllocError>
         ensures { IfOk result (λ copy. copy ≡ self.now) }
     {
@@ -133,7 +133,7 @@ impl Net {
         Net::of(alloc, terminals, tree, queue_passwords, leaf_on, units)
     }
 
-    /// The number of the terminal with a name: None exactly if there is none.
+    /// Returns the number of the terminal with a name: None exactly if there is no such one.
     pub fn terminal(&self, name: &Name) -> Option<u32>
         ensures number { result ≡ terminal_number self.now name.now }
         ensures within { IfSome result (λ number. number < length self.now.terminals) }
@@ -141,7 +141,7 @@ impl Net {
         number_of(&self.terminal_names, name)
     }
 
-    /// The number of the unit with a name: None exactly if there is none.
+    /// Returns the number of the unit with a name: None exactly if there is no such one.
     pub fn unit(&self, name: &Name) -> Option<u32>
         ensures number { result ≡ unit_number self.now name.now }
         ensures within { IfSome result (λ number. number < length self.now.units) }
@@ -150,7 +150,7 @@ impl Net {
     }
 }
 
-/// The place of a name in a set of a few names.
+/// Returns the place of a name in a set of a few names.
 fn number_of(names: &IndexSet<Name>, name: &Name) -> Option<u32>
     requires few { length names.now.keys ≤ MAX_TERMINALS }
     ensures number { result ≡ position (λ other. bytes_eq other name.now) names.now.keys }
@@ -162,7 +162,7 @@ fn number_of(names: &IndexSet<Name>, name: &Name) -> Option<u32>
     }
 }
 
-/// The names of terminals, in their order.
+/// Returns the names of terminals, in their order.
 fn names_of_terminals(alloc: Global, terminals: &[Terminal]) -> Result<Vec<Name>, AllocError>
     ensures { IfOk result (λ names. names.items ≡ names_of_terminals terminals.now) }
 {
@@ -172,14 +172,14 @@ fn names_of_terminals(alloc: Global, terminals: &[Terminal]) -> Result<Vec<Name>
         .collect(alloc)
 }
 
-/// The names of units, in their order.
+/// Returns the names of units, in their order.
 fn names_of_units(alloc: Global, units: &[UnitRow]) -> Result<Vec<Name>, AllocError>
     ensures { IfOk result (λ names. names.items ≡ names_of_units units.now) }
 {
     units.iter().map(|unit| unit.name).collect(alloc)
 }
 
-/// The set of distinct names, in their order.
+/// Returns the set of distinct names, in their order.
 fn set_of(alloc: Global, names: &[Name]) -> Result<IndexSet<Name>, AllocError>
     requires { IsTrue (are_distinct names.now) }
     ensures { IfOk result (λ set. set.keys ≡ names.now) }
@@ -193,7 +193,7 @@ fn set_of(alloc: Global, names: &[Name]) -> Result<IndexSet<Name>, AllocError>
 
 /// What is copied where there is memory.
 trait TryCopy: Drop {
-    /// An equal value. Fails only if memory runs out.
+    /// Returns an equal value. Fails only if memory runs out.
     fn try_copy(&self) -> Result<Self, AllocError>
         ensures { IfOk result (λ copy. copy ≡ self.now) };
 }

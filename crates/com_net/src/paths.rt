@@ -6,7 +6,7 @@ ghost use Rattle.com_net.specs.Places.{below, element};
 use com_text::{Rows, Text, put_number};
 use std::alloc::{AllocError, Global};
 
-/// The path of a key below that of a table; the document's own path is empty.
+/// Returns the path of a key below that of a table; the document's own path is empty.
 pub fn below(alloc: Global, path: &[u8], name: &[u8]) -> Result<Text, AllocError>
     requires path { IsText path.now }
     requires name { IsText name.now }
@@ -21,7 +21,7 @@ pub fn below(alloc: Global, path: &[u8], name: &[u8]) -> Result<Text, AllocError
     Ok(Text::of_vec(bytes.into_vec()))
 }
 
-/// The path of the element with a number.
+/// Returns the path of the element with a number.
 pub fn element(alloc: Global, path: &[u8], number: u64) -> Result<Text, AllocError>
     requires path { IsText path.now }
     ensures path { IfOk result (λ text. text ≡ element path.now number) }
@@ -33,7 +33,7 @@ pub fn element(alloc: Global, path: &[u8], number: u64) -> Result<Text, AllocErr
     Ok(Text::of_vec(bytes.into_vec()))
 }
 
-/// Two texts, one after the other.
+/// Returns two texts, one after the other.
 pub fn joined(alloc: Global, front: &[u8], back: &[u8]) -> Result<Text, AllocError>
     requires front { IsText front.now }
     requires back { IsText back.now }

@@ -24,7 +24,7 @@ pub struct TableAt<'a> {
     pub table: &'a Table,
 }
 
-/// The tables of a document: itself, the terminals, the queues in preorder, the units.
+/// Returns the tables of a document: itself, the terminals, the queues in preorder, the units.
 pub fn places<'a>(alloc: Global, document: &'a Table) -> Result<Vec<TableAt<'a>>, AllocError>
     ensures { IfOk result (λ found. map seen found.items ≡ places (table_view document.now)) }
 {

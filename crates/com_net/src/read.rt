@@ -22,10 +22,10 @@ use std::alloc::{AllocError, Global};
 use toml::Table;
 
 impl Net {
-    /// The network that a description gives, where it has no fault. Refused with the first kind of
-    /// fault that there is, at its first place. Memory: memory ran out.
+    /// Returns the network that a description gives, where it has no fault. Refused with the first
+    /// kind of fault that there is, at its first place. Memory: memory ran out.
     pub fn read(alloc: Global, bytes: &[u8]) -> Result<Net, NetError>
-        // A network is the description's, and where there is one, no fault is told.
+        // A network is the description's, and then no fault is reported.
         ensures net { IfOk result (λ net. net_of bytes.now ≡ Some net) }
         ensures only_net { IsSome (net_of bytes.now) → IfErr result IsMemory }
 
@@ -38,7 +38,7 @@ impl Net {
     }
 }
 
-/// The document that bytes write.
+/// Returns the document that bytes write.
 fn document_of(alloc: Global, bytes: &[u8]) -> Result<Table, NetError>
     ensures short { OnOk result (is_too_long bytes.now ≡ false) }
     ensures document { IfOk result
@@ -58,7 +58,7 @@ fn document_of(alloc: Global, bytes: &[u8]) -> Result<Table, NetError>
     }
 }
 
-/// The refusal of a description as a whole.
+/// Returns the refusal of a description as a whole.
 fn refusal_of_file(alloc: Global, kind: NetKind) -> Result<NetError, AllocError>
     ensures { IfOk result (IsRefusalBy (Some (kind, codes "file"))) }
 {
@@ -66,7 +66,7 @@ fn refusal_of_file(alloc: Global, kind: NetKind) -> Result<NetError, AllocError>
     Ok(NetError::Refused(NetFault { kind, path }))
 }
 
-/// The network of a document, or its first fault.
+/// Returns the network of a document, or its first fault.
 fn net_of(alloc: Global, document: &Table) -> Result<Net, NetError>
     ensures sound { OnOk result (document_fault (table_view document.now) ≡ None) }
     ensures net { IfOk result (λ net. net ≡ parts_of (table_view document.now)) }
@@ -85,7 +85,7 @@ fn net_of(alloc: Global, document: &Table) -> Result<Net, NetError>
     Ok(net)
 }
 
-/// The first fault of the kinds before those of the trees.
+/// Returns the first fault of the kinds before those of the trees.
 fn early_fault(alloc: Global, places: &[TableAt<'_>]) -> Result<Option<NetFault>, AllocError>
     ensures { IfOk result (λ found. option_map (λ fault. (fault.kind, fault.path)) found
         ≡ early_fault (map seen places.now)) }
@@ -108,7 +108,7 @@ fn early_fault(alloc: Global, places: &[TableAt<'_>]) -> Result<Option<NetFault>
     Ok(None)
 }
 
-/// The first fault of the kinds after those of the trees.
+/// Returns the first fault of the kinds after those of the trees.
 fn late_fault(
     alloc: Global,
     tree: &Tree,
@@ -132,7 +132,7 @@ fn late_fault(
     Ok(None)
 }
 
-/// A fault of a kind at a path.
+/// Returns a fault of a kind at a path.
 fn told(kind: NetKind, path: Text) -> Option<NetFault>
     ensures { result ≡ Some (record { kind = kind; path = path }) }
 {

@@ -19,7 +19,7 @@ use com_tree::{Leaf, Node, Tree};
 use std::alloc::{AllocError, Global};
 use toml::{Table, Value};
 
-/// The node at the end of a path.
+/// Returns the node at the end of a path.
 pub fn node_with(tree: &Tree, names: &[Value]) -> Option<Node>
     requires { is_name_path (texts_in names.now) ≡ true }
     ensures node { result ≡ node_with tree.now (texts_in names.now) }
@@ -28,7 +28,7 @@ pub fn node_with(tree: &Tree, names: &[Value]) -> Option<Node>
     tree.node(&path_of(names))
 }
 
-/// The leaf at the end of a path.
+/// Returns the leaf at the end of a path.
 pub fn leaf_with(tree: &Tree, names: &[Value]) -> Option<Leaf>
     requires { is_name_path (texts_in names.now) ≡ true }
     ensures { result ≡ leaf_with tree.now (texts_in names.now) }
@@ -39,7 +39,7 @@ pub fn leaf_with(tree: &Tree, names: &[Value]) -> Option<Leaf>
     }
 }
 
-/// Whether a terminal's messages would come to no leaf.
+/// Returns whether a terminal's messages would come to no leaf.
 fn leads_to_no_leaf(tree: &Tree, table: &Table) -> bool
     requires { has_path key.Input key.Route (table_view table.now) ≡ true }
     ensures { result ≡ leads_to_no_leaf tree.now (table_view table.now) }
@@ -47,7 +47,7 @@ fn leads_to_no_leaf(tree: &Tree, table: &Table) -> bool
     has(Key::Input, table) && leaf_with(tree, names_at(Key::Route, table)).is_none()
 }
 
-/// Whether no node would start a unit.
+/// Returns whether no node would start a unit.
 fn leads_to_no_node(tree: &Tree, table: &Table) -> bool
     requires { has_path key.Schedule key.Schedule (table_view table.now) ≡ true }
     ensures { result ≡ leads_to_no_node tree.now (table_view table.now) }
@@ -55,7 +55,7 @@ fn leads_to_no_node(tree: &Tree, table: &Table) -> bool
     has(Key::Schedule, table) && node_with(tree, names_at(Key::Schedule, table)).is_none()
 }
 
-/// The key of a table's path that leads nowhere.
+/// Returns the key of a table's path that leads nowhere.
 fn lost_key(tree: &Tree, at: &TableAt<'_>) -> Option<Key>
     requires { has_names (seen at.now) ≡ true }
     ensures { option_map (key_path (seen at.now)) result ≡ bad_route tree.now (seen at.now) }
@@ -75,7 +75,7 @@ fn lost_key(tree: &Tree, at: &TableAt<'_>) -> Option<Key>
     }
 }
 
-/// The first route that leads to no leaf or schedule that leads to no node.
+/// Returns the first route that leads to no leaf or schedule that leads to no node.
 pub fn bad_route(
     alloc: Global,
     tree: &Tree,

@@ -5,7 +5,7 @@ ghost use Rattle.com_net.specs.Network.{is_password, is_file_name, is_file_name_
 
 use com_text::is_text;
 
-/// One to ten characters of a text, the last no space.
+/// Returns one to ten characters of a text, the last no space.
 pub fn is_password(text: &[u8]) -> bool
     ensures { result ≡ is_password text.now }
 {
@@ -15,7 +15,7 @@ pub fn is_password(text: &[u8]) -> bool
     is_text(text) && text[text.len() - 1] != b' '
 }
 
-/// One to 64 letters, digits, periods, hyphens and underscores, the first no period.
+/// Returns one to 64 letters, digits, periods, hyphens and underscores, the first no period.
 pub fn is_file_name(name: &[u8]) -> bool
     ensures { result ≡ is_file_name name.now }
 {

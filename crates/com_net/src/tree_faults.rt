@@ -22,7 +22,7 @@ use com_tree::{Choose, MAX_DEPTH, Tree, TreeError, TreeFault, TreeRow};
 use std::alloc::{AllocError, Global};
 use toml::Table;
 
-/// The trees of the queues, or their first fault.
+/// Returns the trees of the queues, or their first fault.
 pub fn tree_of(alloc: Global, places: &[TableAt<'_>]) -> Result<Tree, NetError>
     requires names { list_all has_names (map seen places.now) ≡ true }
     requires outline { IsTrue (is_outline (tree_rows (map seen places.now))) }
@@ -42,7 +42,8 @@ pub fn tree_of(alloc: Global, places: &[TableAt<'_>]) -> Result<Tree, NetError>
     }
 }
 
-/// The nodes of the queues in preorder. One row stands for all below the lowest level of a tree.
+/// Returns the nodes of the queues in preorder. One row stands for all below the lowest level of a
+/// tree.
 fn tree_rows(alloc: Global, places: &[TableAt<'_>]) -> Result<Vec<TreeRow>, AllocError>
     requires { list_all has_names (map seen places.now) ≡ true }
     ensures { IfOk result (λ rows. rows.items ≡ tree_rows (map seen places.now)) }
@@ -82,7 +83,7 @@ fn push_rows(level: u32, table: &Table, rows: &mut Vec<TreeRow>) -> Result<(), A
     Ok(())
 }
 
-/// How a queue chooses, where there are queues below it.
+/// Returns how a queue chooses, where there are queues below it.
 fn choose_of(table: &Table) -> Option<Choose>
     ensures { result ≡ choose_of (table_view table.now) }
 {
@@ -96,8 +97,8 @@ fn choose_of(table: &Table) -> Option<Choose>
     }
 }
 
-/// Where a fault of the trees is told: an empty tree at the array that is empty, others at the
-/// node.
+/// Returns where a fault of the trees is reported: an empty tree at the array that is empty, others
+/// at the node.
 fn tree_path(
     alloc: Global,
     places: &[TableAt<'_>],
@@ -115,7 +116,7 @@ fn tree_path(
     }
 }
 
-/// The path of a row: None where there is no such row.
+/// Returns the path of a row: None if there is no such row.
 fn path_of_row(
     alloc: Global,
     places: &[TableAt<'_>],
@@ -135,7 +136,7 @@ fn path_of_row(
     Ok(None)
 }
 
-/// How many rows a table has: none, or that of a queue, with the row below it.
+/// Returns how many rows a table has: none, or that of a queue, with the row below it.
 fn count_rows(at: &TableAt<'_>) -> usize
     ensures count { result ≡ length (row_paths (seen at.now)) }
     ensures few { result ≤ 2 }
@@ -150,7 +151,7 @@ fn count_rows(at: &TableAt<'_>) -> usize
     }
 }
 
-/// The path of a queue's own row, or of the row below it.
+/// Returns the path of a queue's own row, or of the row below it.
 fn row_path(alloc: Global, at: &TableAt<'_>, number: usize) -> Result<Text, AllocError>
     requires { number < length (row_paths (seen at.now)) }
     ensures { IfOk result (λ path. slice_get (row_paths (seen at.now)) number ≡ Some path) }

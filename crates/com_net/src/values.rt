@@ -12,21 +12,21 @@ use com_text::{MAX_NAMES, Name, NamePath, Text};
 use std::alloc::{AllocError, Global};
 use toml::{Table, Value};
 
-/// The value at a key.
+/// Returns the value at a key.
 pub fn value_at<'a>(key: Key, table: &'a Table) -> Option<&'a Value>
     ensures { option_map (λ value. view value.now) result ≡ value_at key (table_view table.now) }
 {
     table.get(key_text(key))
 }
 
-/// Whether a table has a key, whatever its value is.
+/// Returns whether a table has a key, whatever its value is.
 pub fn has(key: Key, table: &Table) -> bool
     ensures { result ≡ has key (table_view table.now) }
 {
     value_at(key, table).is_some()
 }
 
-/// A string; another value is no text.
+/// Returns a string; another value is not a text.
 fn text_in(value: &Value) -> &str
     ensures { result.now ≡ text_in (view value.now) }
 {
@@ -36,7 +36,7 @@ fn text_in(value: &Value) -> &str
     }
 }
 
-/// The string at a key; another value is no text.
+/// Returns the string at a key; another value is not a text.
 pub fn string_at<'a>(key: Key, table: &'a Table) -> &'a str
     ensures { result.now ≡ string_at key (table_view table.now) }
 {
@@ -46,7 +46,7 @@ pub fn string_at<'a>(key: Key, table: &'a Table) -> &'a str
     }
 }
 
-/// The name at a key.
+/// Returns the name at a key.
 pub fn name_at(key: Key, table: &Table) -> Name
     requires { is_name (string_at key (table_view table.now)) ≡ true }
     ensures { result ≡ string_at key (table_view table.now) }
@@ -54,7 +54,7 @@ pub fn name_at(key: Key, table: &Table) -> Name
     Name::new(string_at(key, table).as_bytes()).unwrap()
 }
 
-/// The text at a key.
+/// Returns the text at a key.
 pub fn text_at(alloc: Global, key: Key, table: &Table) -> Result<Text, AllocError>
     requires { IsText (string_at key (table_view table.now)) }
     ensures { IfOk result (λ text. text ≡ string_at key (table_view table.now)) }
@@ -62,7 +62,7 @@ pub fn text_at(alloc: Global, key: Key, table: &Table) -> Result<Text, AllocErro
     Ok(Text::of_vec(Vec::from_slice(alloc, string_at(key, table).as_bytes())?))
 }
 
-/// The path that one to four strings name.
+/// Returns the path that one to four strings name.
 pub fn path_of(names: &[Value]) -> NamePath
     requires { is_name_path (texts_in names.now) ≡ true }
     ensures { result ≡ texts_in names.now }
@@ -74,7 +74,7 @@ pub fn path_of(names: &[Value]) -> NamePath
     path
 }
 
-/// A string that is a name.
+/// Returns a string that is a name.
 fn name_in(value: &Value) -> Name
     requires { is_name (text_in (view value.now)) ≡ true }
     ensures { result ≡ text_in (view value.now) }
@@ -82,7 +82,7 @@ fn name_in(value: &Value) -> Name
     Name::new(text_in(value).as_bytes()).unwrap()
 }
 
-/// The flag at a key, which is true by default.
+/// Returns the flag at a key, which is true by default.
 pub fn flag_at(key: Key, table: &Table) -> bool
     ensures { result ≡ flag_at key (table_view table.now) }
 {
@@ -92,7 +92,7 @@ pub fn flag_at(key: Key, table: &Table) -> bool
     }
 }
 
-/// The elements of an array of tables; another value has none.
+/// Returns the elements of an array of tables; another value has none.
 fn tables_in(value: &Value) -> &[Value]
     ensures tables { tables_of (items_view result.now) ≡ tables_in (view value.now) }
     ensures all { are_tables (items_view result.now) ≡ true }
@@ -107,7 +107,7 @@ fn tables_in(value: &Value) -> &[Value]
     }
 }
 
-/// The elements of the array of tables at a key.
+/// Returns the elements of the array of tables at a key.
 pub fn tables_at<'a>(key: Key, table: &'a Table) -> &'a [Value]
     ensures tables { tables_of (items_view result.now) ≡ tables_at key (table_view table.now) }
     ensures all { are_tables (items_view result.now) ≡ true }
@@ -118,14 +118,14 @@ pub fn tables_at<'a>(key: Key, table: &'a Table) -> &'a [Value]
     }
 }
 
-/// How many tables the array of tables at a key has.
+/// Returns how many tables the array of tables at a key has.
 pub fn count_at(key: Key, table: &Table) -> usize
     ensures { result ≡ length (tables_at key (table_view table.now)) }
 {
     tables_at(key, table).len()
 }
 
-/// The elements of an array of strings; another value has none.
+/// Returns the elements of an array of strings; another value has none.
 pub fn strings_in(value: &Value) -> &[Value]
     ensures strings { strings_of (items_view result.now) ≡ strings_in (view value.now) }
     ensures all { are_strings (items_view result.now) ≡ true }
@@ -140,7 +140,7 @@ pub fn strings_in(value: &Value) -> &[Value]
     }
 }
 
-/// The elements of the array of strings at a key.
+/// Returns the elements of the array of strings at a key.
 fn strings_at<'a>(key: Key, table: &'a Table) -> &'a [Value]
     ensures strings { strings_of (items_view result.now) ≡ strings_at key (table_view table.now) }
     ensures all { are_strings (items_view result.now) ≡ true }
@@ -151,14 +151,14 @@ fn strings_at<'a>(key: Key, table: &'a Table) -> &'a [Value]
     }
 }
 
-/// The names of the path at a key.
+/// Returns the names of the path at a key.
 pub fn names_at<'a>(key: Key, table: &'a Table) -> &'a [Value]
     ensures { texts_in result.now ≡ strings_at key (table_view table.now) }
 {
     strings_at(key, table)
 }
 
-/// Whether a value is one that a key may have.
+/// Returns whether a value is one that a key may have.
 pub fn is_of_kind(key: Key, value: &Value) -> bool
     ensures { result ≡ is_of_kind key (view value.now) }
 {

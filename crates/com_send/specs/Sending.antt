@@ -51,7 +51,7 @@ advance_of (Emi advance) = Some advance
 advance_of (Egi advance) = Some advance
 
 -- the leftmost TEXT LENGTH characters of the item, and none without an item; undefined where TEXT
--- LENGTH is no number, or more than the item has
+-- LENGTH is not a number, or more than the item has
 abbrev pub sent_text : List ℕ → Option (List ℕ) → Option (List ℕ)
 sent_text area None = Some []
 sent_text area (Some item) =

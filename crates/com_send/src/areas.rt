@@ -25,7 +25,7 @@ const MARKS: usize = 64;
 /// from 0: None where it is unknown.
 pub type Found = ArrayVec<Option<usize>, MAX_FOUND>;
 
-/// The destinations that an area names: None where DESTINATION COUNT is not valid.
+/// Returns the destinations that an area names: None where DESTINATION COUNT is not valid.
 pub fn find_destinations(destinations: &[Destination], area: &OutArea) -> Option<Found>
     ensures destinations { option_map (λ found. found.items) result
         ≡ find_destinations destinations.now area.now }
@@ -48,7 +48,7 @@ fn name_field(area: &OutArea, at: u32) -> &[u8; FIELD_LENGTH]
     area.get(OutField::Destination(at)).try_into().unwrap()
 }
 
-/// The number of the destination whose name a field holds.
+/// Returns the number of the destination whose name a field holds.
 fn destination_with(destinations: &[Destination], field: &[u8; FIELD_LENGTH]) -> Option<usize>
     ensures { result ≡ destination_with destinations.now field.now }
 {
@@ -57,7 +57,7 @@ fn destination_with(destinations: &[Destination], field: &[u8; FIELD_LENGTH]) ->
         .position(|destination| is_same(&destination.name.field(), field))
 }
 
-/// Whether two fields are the same. They are compared as numbers, which takes two steps.
+/// Returns whether two fields are the same. They are compared as numbers, which takes two steps.
 #[tactic(auto, using(crate::proofs::SameFields::same_by_words))]
 fn is_same(field: &[u8; FIELD_LENGTH], other: &[u8; FIELD_LENGTH]) -> bool
     ensures { result ≡ bytes_eq field.now other.now }
@@ -67,7 +67,7 @@ fn is_same(field: &[u8; FIELD_LENGTH], other: &[u8; FIELD_LENGTH]) -> bool
     first_word(first) == first_word(other_first) && last_word(last) == last_word(other_last)
 }
 
-/// The first eight bytes of a field, and the last four.
+/// Returns the first eight bytes of a field, and the last four.
 fn parts(field: &[u8; FIELD_LENGTH]) -> (&[u8; 8], &[u8; 4])
     ensures first { result.0.now ≡ take 8 field.now }
     ensures last { result.1.now ≡ drop 8 field.now }
@@ -81,7 +81,7 @@ fn parts(field: &[u8; FIELD_LENGTH]) -> (&[u8; 8], &[u8; 4])
     (first, last)
 }
 
-/// Eight bytes as a number, which tells them.
+/// Returns eight bytes as a number, one to one.
 fn first_word(bytes: &[u8; 8]) -> u64
     ensures number { result ≡ from_le_bytes w64 bytes.now }
     ensures bytes { to_le_bytes w64 result ≡ bytes.now }
@@ -89,7 +89,7 @@ fn first_word(bytes: &[u8; 8]) -> u64
     u64::from_le_bytes(*bytes)
 }
 
-/// Four bytes as a number, which tells them.
+/// Returns four bytes as a number, one to one.
 fn last_word(bytes: &[u8; 4]) -> u32
     ensures number { result ≡ from_le_bytes w32 bytes.now }
     ensures bytes { to_le_bytes w32 result ≡ bytes.now }
@@ -97,7 +97,7 @@ fn last_word(bytes: &[u8; 4]) -> u32
     u32::from_le_bytes(*bytes)
 }
 
-/// Whether an occurrence names a destination.
+/// Returns whether an occurrence names a destination.
 pub fn is_among(found: &[Option<usize>], destination: usize) -> bool
     ensures { result ≡ is_among found.now destination }
 {
@@ -135,7 +135,7 @@ impl<'a> Named<'a> {
         Named { found, marks }
     }
 
-    /// Whether an occurrence names a destination.
+    /// Returns whether an occurrence names a destination.
     pub fn has(&self, destination: usize) -> bool
         ensures { result ≡ is_among self.now destination }
     {
@@ -159,7 +159,7 @@ fn mark(marks: &mut [bool; MARKS], destination: Option<usize>)
     }
 }
 
-/// Whether a destination is unknown.
+/// Returns whether a destination is unknown.
 pub fn has_unknown(found: &[Option<usize>]) -> bool
     ensures { result ≡ has_unknown found.now }
 {
@@ -197,8 +197,8 @@ pub fn write_keys(area: &mut OutArea, found: &[Option<usize>], status: Status)
     write_status(area, status);
 }
 
-/// The leftmost TEXT LENGTH characters of the item, and none without an item: None where TEXT
-/// LENGTH is no number, or more than the item has.
+/// Returns the leftmost TEXT LENGTH characters of the item, and none without an item: None where
+/// TEXT LENGTH is not a number, or more than the item has.
 pub fn sent_text<'a>(area: &OutArea, item: Option<&'a Text>) -> Option<&'a [u8]>
     ensures characters { option_copied result ≡ sent_text area.now (option_copied item.entry) }
     ensures text { IfSome result (λ text. IsText text.now) }

@@ -15,14 +15,15 @@ pub struct Destination {
     pub on: bool,
 }
 
-/// Whether a key of ENABLE or DISABLE is this password. A key is read without its trailing spaces.
+/// Returns whether a key of ENABLE or DISABLE is this password. A key is read without its trailing
+/// spaces.
 pub fn is_key(key: &Text, password: &Text) -> bool
     ensures { result ≡ is_key key.now password.now }
 {
     trimmed(key.as_bytes()) == password.as_bytes()
 }
 
-/// The characters without those spaces that only spaces follow.
+/// Returns the characters without those spaces that only spaces follow.
 fn trimmed(key: &[u8]) -> &[u8]
     ensures { result.now ≡ trimmed_key key.now }
 {

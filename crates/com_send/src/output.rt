@@ -36,7 +36,7 @@ pub struct Output {
 }
 
 impl Output {
-    /// An output to which so many units have sent nothing.
+    /// Returns an output to which `units` units have sent nothing.
     pub fn new(alloc: Global, on: bool, units: u32) -> Result<Output, AllocError>
         ensures { IfOk result (λ output. state_of output ≡ record {
           on = on;
@@ -105,7 +105,7 @@ impl Output {
         }
     }
 
-    /// What becomes of a finished message: it is transmitted where the output is enabled, and
+    /// Delivers a finished message: it is transmitted if the output is enabled, and
     /// otherwise queued.
     fn deliver(&mut self, message: OutMessage)
         requires { HasPlace self.old }
@@ -137,7 +137,7 @@ impl Output {
         }
     }
 
-    /// What a unit has begun is gone.
+    /// Drops what a unit has begun.
     pub fn drop_unit(&mut self, unit: u32)
         requires { unit < length self.old.begun.items }
         ensures { state_of self.new ≡ with_begun unit nothing_begun (state_of self.old) }
@@ -147,8 +147,8 @@ impl Output {
     }
 }
 
-/// The whole message, for a destination to which nothing is begun. Else there is room for the text
-/// and for a segment.
+/// Makes the whole message, for a destination to which nothing is begun. Else there is room for the
+/// text and for a segment.
 fn ready_message(
     begun: &mut Open,
     sent_part: &SentPart<'_>,
@@ -167,7 +167,7 @@ fn ready_message(
     }
 }
 
-/// The message of a text alone, where the part ends a message.
+/// Returns the message of a text alone, where the part ends a message.
 pub fn whole_message(
     alloc: Global,
     part: Part,
@@ -185,7 +185,7 @@ pub fn whole_message(
     Ok(Some(whole))
 }
 
-/// What so many units have begun that have sent nothing.
+/// Returns what so many units have begun that have sent nothing.
 fn nothing_begun(alloc: Global, units: u32) -> Result<Vec<Open>, AllocError>
     ensures { IfOk result (λ begun. map (λ message. message.begun) begun.items
         ≡ replicate units nothing_begun) }

@@ -15,7 +15,7 @@ use com_cd::Status;
 use com_msg::Part;
 use std::alloc::{AllocError, Global};
 
-/// The outputs of destinations to which so many units have sent nothing.
+/// Returns the outputs of destinations to which `units` units have sent nothing.
 pub fn outputs_of(
     alloc: Global,
     destinations: &[Destination],
@@ -71,7 +71,7 @@ pub fn switch(outputs: &mut [Output], found: &[Option<usize>], on: bool) -> Resu
     Ok(())
 }
 
-/// What a unit has begun is gone, at each destination.
+/// Drops what a unit has begun, at each destination.
 pub fn drop_unit(outputs: &mut [Output], unit: u32)
     requires { All (λ output. unit < length output.begun.items) outputs.old }
     ensures { states_of outputs.new ≡ drop_unit unit (states_of outputs.old) }
@@ -144,8 +144,8 @@ fn switch_each(outputs: &mut [Output], found: &[Option<usize>], on: bool)
     }
 }
 
-/// The status key of a SEND that is served: 20 where a destination is unknown, otherwise 10 where a
-/// known one is disabled, otherwise 00.
+/// Returns the status key of a SEND that is served: 20 where a destination is unknown, otherwise 10
+/// where a known one is disabled, otherwise 00.
 fn send_status(outputs: &[Output], found: &[Option<usize>]) -> Status
     ensures { result ≡ send_status found.now (states_of outputs.now) }
 {
@@ -158,7 +158,7 @@ fn send_status(outputs: &[Output], found: &[Option<usize>]) -> Status
     }
 }
 
-/// Whether a destination that is named is disabled.
+/// Returns whether a destination that is named is disabled.
 fn has_disabled(outputs: &[Output], found: &[Option<usize>]) -> bool
     ensures { result ≡ has_disabled found.now (states_of outputs.now) }
 {

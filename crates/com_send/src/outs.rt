@@ -44,7 +44,7 @@ impl Model for Outs {
 }
 
 impl Outs {
-    /// The outputs of these destinations, to which so many units have sent nothing.
+    /// Returns the outputs of these destinations, to which `units` units have sent nothing.
     pub fn new(
         alloc: Global,
         destinations: Rows<Destination>,
@@ -64,14 +64,14 @@ impl Outs {
         })
     }
 
-    /// The destinations, in their order.
+    /// Returns the destinations, in their order.
     pub fn destinations(&self) -> &[Destination]
         ensures { result.now ≡ self.now.destinations }
     {
         self.destinations.as_slice()
     }
 
-    /// How many units there are.
+    /// Returns how many units there are.
     pub fn units(&self) -> u32
         ensures { result ≡ self.now.units }
     {
@@ -80,7 +80,7 @@ impl Outs {
 
     /// SEND of a unit: the leftmost TEXT LENGTH characters of an item, or none without an item, are
     /// added to what the unit has begun at each known destination of the area, and the part ends
-    /// the segment and the message. The area tells what became of it. If memory runs out, nothing
+    /// the segment and the message. The area says what became of it. If memory runs out, nothing
     /// changes.
     pub fn send(
         &mut self,
@@ -153,7 +153,7 @@ impl Outs {
         drop_unit(&mut self.outputs, unit);
     }
 
-    /// The messages that were transmitted to a destination, in order.
+    /// Returns the messages that were transmitted to a destination, in order.
     pub fn transmitted(&self, destination: u32) -> &[OutMessage]
         requires { destination < length self.now.destinations }
         ensures transmitted { transmitted_to self.now.outgoing destination ≡ Some result.now }
@@ -163,14 +163,14 @@ impl Outs {
     }
 }
 
-/// Whether a part is a portion without characters.
+/// Returns whether a part is a portion without characters.
 fn is_nothing(part: Part, text: &[u8]) -> bool
     ensures { result ≡ is_nothing part text.now }
 {
     part == Part::Portion && text.is_empty()
 }
 
-/// Whether a key is the password of each destination that is named.
+/// Returns whether a key is the password of each destination that is named.
 fn is_key_of_each(destinations: &[Destination], found: &[Option<usize>], key: &Text) -> bool
     ensures { result ≡ is_key_of_each found.now key.now destinations.now }
 {
@@ -178,8 +178,8 @@ fn is_key_of_each(destinations: &[Destination], found: &[Option<usize>], key: &T
         || is_key(key, &destination.password))
 }
 
-/// The status key of an ENABLE or DISABLE OUTPUT whose key is right: 20 where a destination is
-/// unknown, otherwise 00.
+/// Returns the status key of an ENABLE or DISABLE OUTPUT whose key is right: 20 where a destination
+/// is unknown, otherwise 00.
 fn switch_status(found: &[Option<usize>]) -> Status
     ensures { result ≡ switch_status found.now }
 {

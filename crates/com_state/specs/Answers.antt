@@ -15,7 +15,7 @@ abbrev pub is_ready : State → ℕ → List ℕ → Bool
 is_ready S unit area =
     is_some (option_and_then (next_rest S.net.tree S.incoming unit) (designated S.net.tree area))
 
--- the reply to a RECEIVE, by what was taken and what the area tells
+-- the reply to a RECEIVE, by what was taken and the area
 abbrev pub reply_of : Taken → List ℕ → Reply
 reply_of (taken.Given text) area = Given area text
 reply_of taken.NoData area = NoData area

@@ -139,7 +139,7 @@ pub fn a_step_is_one_entry_more()
         LeadsTo first (history ++ entry ∷ []) next }
 {}
 
-/// A legal history leaves the state that `state_after` tells, and no other.
+/// A legal history leaves the state that `state_after` gives, and no other.
 pub fn a_legal_history_leaves_one_state()
     ensures left { (net : NetOf) (history : List EntryOf) (last : SystemState) →
         LeadsTo (opening net) history last → state_after net history ≡ Some last }

@@ -27,7 +27,7 @@
 //! ```
 //!
 //! - `step` is what a call is answered and the state that it leaves, `opening` the state of a
-//!   network in which nothing has happened, and `Legal` tells which histories are the system's.
+//!   network in which nothing has happened, and `Legal` says which histories are the system's.
 //! - What comes in is com_recv's `Incoming`, what goes out com_send's `Outgoing`: their definitions
 //!   are the system's.
 //! - [`every_history_is_whole`]: in every legal history a message goes to one unit, from its front

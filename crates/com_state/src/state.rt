@@ -51,8 +51,8 @@ impl Model for State {
 }
 
 impl State {
-    /// The state of a network in which nothing has happened. It has a copy of the network. The only
-    /// error is out of memory.
+    /// Returns the state of a network in which nothing has happened. It has a copy of the network.
+    /// The only error is out of memory.
     pub fn open(net: &Net) -> Result<State, AllocError>
         ensures { IfOk result (λ state. state ≡ opening net.now) }
     {
@@ -78,7 +78,7 @@ impl State {
         })
     }
 
-    /// The network.
+    /// Returns the network.
     pub fn net(&self) -> &Net
         ensures net { result.now ≡ self.now.net }
         ensures valid { IsSystem self.now }
@@ -86,7 +86,7 @@ impl State {
         &self.net
     }
 
-    /// The messages that were transmitted to a terminal, in order.
+    /// Returns the messages that were transmitted to a terminal, in order.
     pub fn transmitted(&self, terminal: u32) -> &[OutMessage]
         requires { terminal < length self.now.net.terminals }
         ensures transmitted { transmitted_to self.now.outgoing terminal ≡ Some result.now }
@@ -117,7 +117,7 @@ impl State {
     }
 }
 
-/// The terminals of a network as destinations.
+/// Returns the terminals of a network as destinations.
 fn destinations_of(alloc: Global, terminals: &[Terminal]) -> Result<Rows<Destination>, AllocError>
     ensures { IfOk result (λ destinations. destinations ≡ map (λ terminal. record {
       name = terminal.name;
@@ -136,7 +136,7 @@ fn destinations_of(alloc: Global, terminals: &[Terminal]) -> Result<Rows<Destina
     Ok(Rows::of_vec(destinations))
 }
 
-/// Whether the input of each terminal is enabled at the beginning.
+/// Returns whether the input of each terminal is enabled at the beginning.
 fn inputs_of(alloc: Global, terminals: &[Terminal]) -> Result<Vec<bool>, AllocError>
     ensures { IfOk result (λ inputs. inputs.items
         ≡ map (λ terminal. terminal.input_on) terminals.now) }
@@ -147,7 +147,7 @@ fn inputs_of(alloc: Global, terminals: &[Terminal]) -> Result<Vec<bool>, AllocEr
         .collect(alloc)
 }
 
-/// So many units that have not started.
+/// Returns states of `count` units that have not started.
 fn dormant_units(alloc: Global, count: usize) -> Result<Vec<UnitState>, AllocError>
     ensures { IfOk result (λ units. units.items ≡ replicate count opening_unit) }
 {

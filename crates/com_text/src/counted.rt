@@ -1,4 +1,4 @@
-//! Counted fields: bytes after their number, so that any byte may stand in them.
+//! Counted fields: bytes after their number, so that any byte may occur in them.
 ghost use Rattle.std.specs.Prelude.{◌≡◌, ◌↔◌, ◌≤◌, ◌+◌, ℕ, take, List, ◌++◌, length, decimal, IsTrue, Some, OnOk, OnErr, IfSome};
 ghost use Rattle.std.specs.List.{position};
 ghost use Rattle.com_text.specs.Counted.{counted_field, is_colon, IsCountable, HasLeadingZero, StandsAt};
@@ -22,9 +22,9 @@ pub fn put_counted(out: &mut Rows<u8>, bytes: &[u8]) -> Result<(), AllocError>
     out.extend_all(count.format(bytes.len()).as_bytes(), b":", bytes)
 }
 
-/// The places, from 0, of the first byte and past the last byte of the content of the counted
-/// field at the front. None exactly if no front of the bytes is a counted field: its number is
-/// missing, begins with a zero that is not alone, has more than six digits or no colon after it,
+/// Returns the places, from 0, of the first byte and past the last byte of the content of the
+/// counted field at the front. None exactly if no front of the bytes is a counted field: its number
+/// is missing, begins with a zero that is not alone, has more than six digits or no colon after it,
 /// or says more bytes than there are.
 pub fn take_counted(bytes: &[u8]) -> Option<(usize, usize)>
     ensures found { IfSome result (λ found. StandsAt bytes.now found.0 found.1) }
@@ -42,7 +42,7 @@ pub fn take_counted(bytes: &[u8]) -> Option<(usize, usize)>
     Some((from, from + count))
 }
 
-/// The place of the first colon, where it is near enough that a number stands before it.
+/// Returns the place of the first colon, where it is near enough that a number stands before it.
 fn colon_in(bytes: &[u8]) -> Option<usize>
     ensures { result ≡ position is_colon (take 7 bytes.now) }
 {
@@ -52,7 +52,7 @@ fn colon_in(bytes: &[u8]) -> Option<usize>
         .position(|byte| *byte == b':')
 }
 
-/// The number of bytes that these digits say, written as a counted field writes it.
+/// Returns the number of bytes that these digits say, written as a counted field writes it.
 fn count_of(digits: &[u8]) -> Option<usize>
     ensures { (count : ℕ) → (result ≡ Some count)
         ↔ ((count ≤ MAX_COUNTED) × (digits.now ≡ decimal count)) }
@@ -64,7 +64,7 @@ fn count_of(digits: &[u8]) -> Option<usize>
     Some(count as usize)
 }
 
-/// Whether digits have a zero at their front that is not alone.
+/// Returns whether digits have a zero at their front that is not alone.
 pub fn has_leading_zero(digits: &[u8]) -> bool
     ensures { IsTrue result ↔ HasLeadingZero digits.now }
 {

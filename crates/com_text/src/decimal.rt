@@ -22,7 +22,7 @@ pub fn digits(n: u64, into: &mut [u8])
     }
 }
 
-/// A number in `N` decimal digits, with leading zeros.
+/// Returns a number in `N` decimal digits, with leading zeros.
 pub fn digits_of<const N: usize>(n: u64) -> [u8; N]
     requires { n < 10 ^ N }
     ensures digits { result ≡ in_digits n N }
@@ -34,8 +34,8 @@ pub fn digits_of<const N: usize>(n: u64) -> [u8; N]
     field
 }
 
-/// The number that decimal digits write, leading zeros or not: None exactly if there are no
-/// bytes, more than 18, or one that is no digit.
+/// Returns the number that decimal digits write, leading zeros or not: None exactly if there are no
+/// bytes, more than 18, or one that is not a digit.
 pub fn number_of(bytes: &[u8]) -> Option<u64>
     ensures some { IsSome result ↔ IsNumber bytes.now }
     ensures number { IfSome result (λ n. n ≡ number bytes.now) }

@@ -15,7 +15,7 @@
 //!   byte that is none. A [`NamePath`] is a list of one to four names.
 //! - [`digits`] and [`digits_of`] write the digits of a number, and [`number_of`] is the number of
 //!   1 to 18 digits and of nothing else.
-//! - [`take_counted`] finds the content of a counted field exactly if one stands at the front, and
+//! - [`take_counted`] finds the content of a counted field exactly if one is at the beginning, and
 //!   finds again what [`put_counted`] wrote, whatever follows it.
 //! - [`Rows`] is a list that owns its items and grows at its end. If memory runs out, nothing
 //!   changes.

@@ -56,7 +56,7 @@ pub enum Field {
 }
 
 impl Name {
-    /// The name with these characters: None exactly if they are no name.
+    /// Returns the name with these characters: None exactly if they are not a name.
     pub fn new(bytes: &[u8]) -> Option<Name>
         ensures some { IsSome result ↔ IsName bytes.now }
         ensures name { IfSome result (λ name. name ≡ bytes.now) }
@@ -69,7 +69,7 @@ impl Name {
         Some(Name { field })
     }
 
-    /// The name followed by spaces, 12 characters.
+    /// Returns the name followed by spaces, 12 characters.
     pub fn field(&self) -> [u8; FIELD_LENGTH]
         ensures field { result ≡ field_of self.now }
         ensures valid { IsName self.now }
@@ -78,7 +78,7 @@ impl Name {
         self.field
     }
 
-    /// The characters of the name alone.
+    /// Returns the characters of the name alone.
     pub fn as_bytes(&self) -> &[u8]
         ensures characters { result.now ≡ self.now }
         ensures valid { IsName self.now }
@@ -87,7 +87,7 @@ impl Name {
         characters
     }
 
-    /// The characters of the name alone, as a `&str`.
+    /// Returns the characters of the name alone, as a `&str`.
     pub fn as_str(&self) -> &str
         ensures characters { result.now ≡ self.now }
         ensures valid { IsName self.now }
@@ -95,8 +95,8 @@ impl Name {
         str::from_utf8(self.as_bytes()).unwrap()
     }
 
-    /// What a field holds. A name that begins later than the field's first character, or that
-    /// anything but spaces follows, is `Bad`.
+    /// Returns what a field holds. A name that begins later than the field's first character, or
+    /// that anything but spaces follows, is `Bad`.
     pub fn of_field(field: &[u8; FIELD_LENGTH]) -> Field
         ensures spaces { (result ≡ Field.Spaces) ↔ (field.now ≡ spaces 12) }
         ensures named { (name : List ℕ) → (result ≡ Field.Named name)
@@ -116,7 +116,7 @@ impl Name {
     }
 }
 
-/// How many characters stand before the first space.
+/// Returns how many characters stand before the first space.
 fn length_before_space(field: &[u8; FIELD_LENGTH]) -> usize
     ensures length { result ≡ prefix_len is_character field.now }
     ensures within { result ≤ 12 }
@@ -127,14 +127,14 @@ fn length_before_space(field: &[u8; FIELD_LENGTH]) -> usize
         .unwrap_or(FIELD_LENGTH)
 }
 
-/// Whether there is a byte that is no space.
+/// Returns whether a byte is not a space.
 pub fn has_character(bytes: &[u8]) -> bool
     ensures { result ≡ list_any is_character bytes.now }
 {
     bytes.iter().any(|byte| *byte != b' ')
 }
 
-/// Whether the bytes are a name.
+/// Returns whether the bytes are a name.
 fn is_name(bytes: &[u8]) -> bool
     ensures { result ≡ is_name bytes.now }
 {
@@ -144,21 +144,21 @@ fn is_name(bytes: &[u8]) -> bool
     has_name_bytes(bytes) && has_letter(bytes) && bytes[0] != b'-' && bytes[bytes.len() - 1] != b'-'
 }
 
-/// Whether each byte may stand in a name.
+/// Returns whether each byte may occur in a name.
 fn has_name_bytes(bytes: &[u8]) -> bool
     ensures { result ≡ list_all is_name_byte bytes.now }
 {
     bytes.iter().all(|byte| is_name_byte(*byte))
 }
 
-/// Whether there is a letter among the bytes.
+/// Returns whether there is a letter among the bytes.
 fn has_letter(bytes: &[u8]) -> bool
     ensures { result ≡ list_any is_letter bytes.now }
 {
     bytes.iter().any(|byte| byte.is_ascii_uppercase())
 }
 
-/// Whether a byte may stand in a name: a letter A to Z, a digit or a hyphen.
+/// Returns whether a byte may occur in a name: a letter A to Z, a digit or a hyphen.
 fn is_name_byte(byte: u8) -> bool
     ensures { result ≡ is_name_byte byte }
 {

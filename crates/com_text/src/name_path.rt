@@ -46,7 +46,7 @@ impl PartialEq for NamePath {
 }
 
 impl NamePath {
-    /// The path of one name.
+    /// Returns the path of one name.
     pub fn new(first: Name) -> NamePath
         ensures { result ≡ first ∷ [] }
     {
@@ -56,7 +56,7 @@ impl NamePath {
         }
     }
 
-    /// The path with one more name below: None exactly at four names.
+    /// Returns the path with one more name below: None exactly at four names.
     pub fn then(&self, next: Name) -> Option<NamePath>
         ensures none { IsNone result ↔ (length self.now ≡ MAX_NAMES) }
         ensures longer { IfSome result (λ path. path ≡ self.now ++ next ∷ []) }
@@ -70,7 +70,7 @@ impl NamePath {
         Some(path)
     }
 
-    /// Its names, one to four, from the top down.
+    /// Returns its names, one to four, from the top down.
     pub fn names(&self) -> &[Name]
         ensures names { result.now ≡ self.now }
         ensures not_empty { 1 ≤ length self.now }

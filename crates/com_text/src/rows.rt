@@ -17,7 +17,7 @@ impl<T> Model for Rows<T> {
 }
 
 impl<T> Rows<T> {
-    /// An empty list, which takes no memory.
+    /// Returns an empty list, which takes no memory.
     pub fn new(alloc: Global) -> Self
         ensures { result ≡ [] }
     {
@@ -38,40 +38,40 @@ impl<T> Rows<T> {
         }
     }
 
-    /// The items, in order.
+    /// Returns the items, in order.
     pub fn as_slice(&self) -> &[T]
         ensures { result.now ≡ self.now }
     {
         self.items.as_slice()
     }
 
-    /// How many items there are.
+    /// Returns how many items there are.
     pub fn len(&self) -> usize
         ensures { result ≡ length self.now }
     {
         self.items.len()
     }
 
-    /// Whether there is no item.
+    /// Returns whether the list is empty.
     pub fn is_empty(&self) -> bool
         ensures { IsTrue result ↔ (self.now ≡ []) }
     {
         self.items.is_empty()
     }
 
-    /// The allocator that the list grows by.
+    /// Returns the allocator that the list grows by.
     pub fn allocator(&self) -> Global {
         *self.items.allocator()
     }
 
-    /// The list of a `Vec`'s items, with the room that it has reserved.
+    /// Returns the list of a `Vec`'s items, with the room that it has reserved.
     pub fn of_vec(items: Vec<T>) -> Self
         ensures { result ≡ items.items }
     {
         Rows { items }
     }
 
-    /// The items as a `Vec`, with the room that it has reserved.
+    /// Returns the items as a `Vec`, with the room that it has reserved.
     pub fn into_vec(self) -> Vec<T>
         ensures { result.items ≡ self }
     {

@@ -44,8 +44,8 @@ impl From<AllocError> for TextError {
 }
 
 impl Text {
-    /// A copy of the bytes, where each is a character of a text. Else the error names the first
-    /// byte that is none. Memory: memory ran out.
+    /// Returns a copy of the bytes, where each is a character of a text. Else the error names the
+    /// first byte that is none. Memory: memory ran out.
     pub fn read(alloc: Global, bytes: &[u8]) -> Result<Text, TextError>
         ensures ok { IfOk result (λ text. text ≡ bytes.now) }
         ensures only_texts { IfOk result (λ text. IsText text) }
@@ -59,7 +59,7 @@ impl Text {
         Ok(Text { bytes })
     }
 
-    /// The text that a `Vec` holds, with the room that it has reserved.
+    /// Returns the text that a `Vec` holds, with the room that it has reserved.
     pub fn of_vec(bytes: Vec<u8>) -> Text
         requires { IsText bytes.items }
         ensures { result ≡ bytes.items }
@@ -67,7 +67,7 @@ impl Text {
         Text { bytes }
     }
 
-    /// The characters, in order.
+    /// Returns the characters, in order.
     pub fn as_bytes(&self) -> &[u8]
         ensures same { result.now ≡ self.now }
         ensures text { IsText self.now }
@@ -75,7 +75,7 @@ impl Text {
         self.bytes.as_slice()
     }
 
-    /// The characters, in order, as a `&str`.
+    /// Returns the characters, in order, as a `&str`.
     pub fn as_str(&self) -> &str
         ensures same { result.now ≡ self.now }
         ensures text { IsText self.now }
@@ -83,7 +83,7 @@ impl Text {
         str::from_utf8(&self.bytes).unwrap()
     }
 
-    /// A second text of the same characters. Fails only if memory runs out.
+    /// Returns a second text of the same characters. Fails only if memory runs out.
     pub fn copy(&self) -> Result<Text, AllocError>
         ensures { IfOk result (λ text. text ≡ self.now) }
     {
@@ -92,7 +92,8 @@ impl Text {
     }
 }
 
-/// The place, from 0, of the first byte that is no character of a text: None where each is one.
+/// Returns the place, from 0, of the first byte that is not a character of a text: None if each is
+/// one.
 fn first_bad_byte(bytes: &[u8]) -> Option<usize>
     ensures { MatchOption result (IsText bytes.now) (IsFirstBadByte bytes.now) }
 {
@@ -104,14 +105,14 @@ fn first_bad_byte(bytes: &[u8]) -> Option<usize>
     None
 }
 
-/// Whether a byte is a character of a text.
+/// Returns whether a byte is a character of a text.
 pub fn is_text_byte(byte: u8) -> bool
     ensures { result ≡ is_text_byte byte }
 {
     matches!(byte, 0x20..=0x7E)
 }
 
-/// Whether each byte is a character of a text.
+/// Returns whether each byte is a character of a text.
 pub fn is_text(bytes: &[u8]) -> bool
     ensures { result ≡ is_text bytes.now }
 {

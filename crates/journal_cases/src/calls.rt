@@ -7,7 +7,7 @@ use com_msg::{Part, RawMessage, Stamp};
 use com_text::Text;
 use std::alloc::{AllocError, Global};
 
-/// The call of a line, with its parts.
+/// Returns the call of a line, with its parts.
 pub fn call_line(alloc: Global, line: &[u8]) -> Result<String, AllocError> {
     match read_line(alloc, line)? {
         Some((party, call)) => of_party(alloc, &party, &call),
@@ -15,7 +15,7 @@ pub fn call_line(alloc: Global, line: &[u8]) -> Result<String, AllocError> {
     }
 }
 
-/// A call with its parts, after its party.
+/// Returns a call with its parts, after its party.
 pub fn of_party(alloc: Global, party: &Party, call: &Call) -> Result<String, AllocError> {
     let call = shown(alloc, call)?;
     match party {
@@ -24,7 +24,7 @@ pub fn of_party(alloc: Global, party: &Party, call: &Call) -> Result<String, All
     }
 }
 
-/// A call with its parts.
+/// Returns a call with its parts.
 fn shown(alloc: Global, call: &Call) -> Result<String, AllocError> {
     match call {
         Call::Start => String::from_str(alloc, "Start"),

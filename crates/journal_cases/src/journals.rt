@@ -5,7 +5,7 @@ use com_events::{Entry, Reply};
 use com_journal::{JournalError, write};
 use std::alloc::{AllocError, Global};
 
-/// The calls of a script, or its fault.
+/// Returns the calls of a script, or its fault.
 pub fn read_calls(alloc: Global, bytes: &[u8]) -> Result<String, AllocError> {
     match com_journal::read_calls(alloc, bytes) {
         Ok(calls) => {
@@ -23,7 +23,7 @@ pub fn read_calls(alloc: Global, bytes: &[u8]) -> Result<String, AllocError> {
     }
 }
 
-/// The entries of a journal, or its fault.
+/// Returns the entries of a journal, or its fault.
 pub fn read(alloc: Global, bytes: &[u8]) -> Result<String, AllocError> {
     match com_journal::read(alloc, bytes) {
         Ok(entries) => all_of(alloc, entries.as_slice()),
@@ -31,7 +31,7 @@ pub fn read(alloc: Global, bytes: &[u8]) -> Result<String, AllocError> {
     }
 }
 
-/// The replies of the journal with this line, or its fault.
+/// Returns the replies of the journal with this line, or its fault.
 pub fn read_entry(alloc: Global, line: &[u8]) -> Result<String, AllocError> {
     let mut bytes = Vec::from_slice(alloc, b"MCS-JOURNAL 1\n")?;
     bytes.extend_from_slice(line)?;
@@ -42,7 +42,7 @@ pub fn read_entry(alloc: Global, line: &[u8]) -> Result<String, AllocError> {
     }
 }
 
-/// A journal, read and written again.
+/// Returns a journal, read and written again.
 pub fn read_and_write(alloc: Global, bytes: &[u8]) -> Result<String, AllocError> {
     match com_journal::read(alloc, bytes) {
         Ok(entries) => {
@@ -66,7 +66,7 @@ fn fault(alloc: Global, error: JournalError) -> Result<String, AllocError> {
     }
 }
 
-/// The calls of entries with their parties, and their replies.
+/// Returns the calls of entries with their parties, and their replies.
 fn all_of(alloc: Global, entries: &[Entry]) -> Result<String, AllocError> {
     let mut out = format!(in alloc; "{} entries:", entries.len())?;
     let mut between = " ";

@@ -6,7 +6,8 @@ use com_journal::{JournalError, JournalKind, read, read_calls};
 use com_text::number_of;
 use std::alloc::{AllocError, Global};
 
-/// How many lines a right line is changed to, how many of them are refused, and which are not.
+/// Returns how many lines a right line is changed to, how many of them are refused, and which are
+/// not.
 pub fn mutations(alloc: Global, line: &[u8]) -> Result<String, AllocError> {
     if is_refused(alloc, line)? {
         return String::from_str(alloc, "not a right line");
@@ -24,7 +25,7 @@ pub fn mutations(alloc: Global, line: &[u8]) -> Result<String, AllocError> {
     format!(in alloc; "{} lines, {refused} refused{others}", lines.len())
 }
 
-/// Whether a script and a journal that have this line after their header are refused at it.
+/// Returns whether a script and a journal that have this line after their header are refused at it.
 fn is_refused(alloc: Global, line: &[u8]) -> Result<bool, AllocError> {
     Ok(is_no_call(alloc, line)? && is_no_entry(alloc, line)?)
 }
@@ -45,7 +46,7 @@ fn is_no_entry(alloc: Global, line: &[u8]) -> Result<bool, AllocError> {
     }
 }
 
-/// A header, and a line after it.
+/// Returns a header, and a line after it.
 fn text_of(alloc: Global, header: &[u8], line: &[u8]) -> Result<Vec<u8>, AllocError> {
     let mut text = Vec::from_slice(alloc, header)?;
     text.extend_from_slice(line)?;
@@ -53,7 +54,7 @@ fn text_of(alloc: Global, header: &[u8], line: &[u8]) -> Result<Vec<u8>, AllocEr
     Ok(text)
 }
 
-/// Whether a fault is that of the line after the header.
+/// Returns whether a fault is that of the line after the header.
 fn is_of_line(error: JournalError) -> Result<bool, AllocError> {
     match error {
         JournalError::Refused(fault) => Ok(fault.line == 2 && fault.kind == JournalKind::BadLine),
@@ -61,7 +62,7 @@ fn is_of_line(error: JournalError) -> Result<bool, AllocError> {
     }
 }
 
-/// Every line that a line is changed to.
+/// Returns every line that a line is changed to.
 fn changed_lines(alloc: Global, line: &[u8]) -> Result<Vec<Vec<u8>>, AllocError> {
     let mut changed = Changed::new(alloc);
     changed.add_ends(line)?;
@@ -80,7 +81,7 @@ fn changed_lines(alloc: Global, line: &[u8]) -> Result<Vec<Vec<u8>>, AllocError>
     Ok(changed.lines)
 }
 
-/// How long the field at the front is: a counted field with its content, or a word.
+/// Returns how long the field at the front is: a counted field with its content, or a word.
 fn field_length(left: &[u8]) -> usize
     ensures { result ≤ length left.now }
 {
@@ -103,7 +104,7 @@ fn word_length(left: &[u8]) -> usize
         .min(left.len())
 }
 
-/// How many digits stand at the front.
+/// Returns how many digits stand at the front.
 fn digit_count(left: &[u8]) -> usize
     ensures { result ≤ length left.now }
 {
@@ -140,7 +141,7 @@ impl Changed {
         Ok(())
     }
 
-    /// A space in front and after, and the other sort of party.
+    /// Adds a space in front and after, and the other sort of party.
     fn add_ends(&mut self, line: &[u8]) -> Result<(), AllocError> {
         self.add(&[b" ", line])?;
         self.add(&[line, b" "])?;
@@ -167,7 +168,7 @@ impl Changed {
         self.passed.extend_from_slice(field)
     }
 
-    /// The count of a counted field with a leading zero, and one more and one less.
+    /// Adds the count of a counted field with a leading zero, and one more and one less.
     fn add_counts(&mut self, digits: &[u8], behind: &[&[u8]; 2]) -> Result<(), AllocError> {
         self.add(&[b"0", digits, behind[0], behind[1]])?;
         let count = number_of(digits).unwrap_or(0);
@@ -180,7 +181,7 @@ impl Changed {
         Ok(())
     }
 
-    /// A leading zero of the digits at the end of a field.
+    /// Adds a leading zero of the digits at the end of a field.
     fn add_number(&mut self, field: &[u8], behind: &[u8]) -> Result<(), AllocError> {
         let digits = field
             .iter()

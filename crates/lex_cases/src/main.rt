@@ -1,5 +1,5 @@
-//! Cases of the tokens of COBOL sources. Each line of `stdin` is a source, and `stdout` has its tokens,
-//! each with line and column, span and text, or its fault.
+//! Cases of the tokens of COBOL sources. Each line of `stdin` is a source, and `stdout` has its
+//! tokens, each with line and column, span and text, or its fault.
 #![tactic(auto)]
 
 use case_lines::{Cases, Quoted, Words, answer_cases, unknown_call};
@@ -22,7 +22,7 @@ impl Cases for Sources {
     }
 }
 
-/// The tokens of a source, or its fault.
+/// Returns the tokens of a source, or its fault.
 fn tokens_of(alloc: Global, source: &[u8]) -> Result<String, AllocError> {
     if source.len() > MAX_SOURCE {
         return String::from_str(alloc, "a source that is too long");
@@ -53,7 +53,7 @@ fn list_of(alloc: Global, tokens: &[Token]) -> Result<String, AllocError> {
     Ok(list)
 }
 
-/// A token with its line and column, its span and its text.
+/// Returns a token with its line and column, its span and its text.
 fn text_of(alloc: Global, token: &Token) -> Result<String, AllocError> {
     let (kind, line, column) = (token.kind, token.line, token.column);
     let (start, past) = (token.start, token.past);

@@ -1,8 +1,10 @@
-//! Cases of the program's commands, and of its files. Each line of `stdin` is a call with its words,
-//! and `stdout` has what it is to answer, behind what the call itself wrote to standard output.
+//! Cases of the program's commands, and of its files. Each line of `stdin` is a call with its
+//! words, and `stdout` has what it is to answer, behind what the call itself wrote to standard
+//! output.
 //!
-//! `tool` does a command over a store in memory that has the files which the command names: those that
-//! were `put`, and else those of `data/`. `text`, `bytes` and `totals` tell what it wrote under a name.
+//! `tool` does a command over a store in memory that has the files which the command names: those
+//! that were `put`, and else those of `data/`. `text`, `bytes` and `totals` tell what it wrote
+//! under a name.
 #![tactic(auto)]
 
 mod commands;
@@ -16,7 +18,8 @@ use commands::Files;
 use std::alloc::AllocError;
 use std::io;
 
-/// The cases: the files of the current folder, those that were put, and what the last command wrote.
+/// The cases: the files of the current folder, those that were put, and what the last command
+/// wrote.
 #[derive(Drop)]
 struct Desk<'a> {
     rt: &'a HostRuntime,
@@ -46,8 +49,8 @@ impl Desk<'_> {
         format!(in self.rt.alloc(); "{status}")
     }
 
-    /// The exit status of the replay of a script of these lines over a description, and what it wrote to
-    /// standard output.
+    /// The exit status of the replay of a script of these lines over a description, and what it
+    /// wrote to standard output.
     fn line(&mut self, words: &mut Words<'_>) -> Result<String, AllocError> {
         let alloc = self.rt.alloc();
         let description = words.bytes();

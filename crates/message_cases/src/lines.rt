@@ -8,7 +8,7 @@ use com_msg::{Framing, RawMessage};
 use com_text::Rows;
 use std::alloc::{AllocError, Global};
 
-/// What a call on the framing of input answers: None where it is no such call.
+/// Returns what a call on the framing of input answers: None for any other call.
 pub fn answer(
     alloc: Global,
     call: &[u8],
@@ -24,7 +24,7 @@ pub fn answer(
     Ok(Some(answer))
 }
 
-/// The framing that a word names.
+/// Returns the framing that a word names.
 fn framing_of(word: &[u8]) -> Framing {
     match word {
         b"Marks" => Framing::Marks,
@@ -48,7 +48,7 @@ fn feed(
     Ok(())
 }
 
-/// What bytes are that come in pieces of a size: their messages, and the answer at the end.
+/// Returns what bytes are that come in pieces of a size: their messages, and the answer at the end.
 fn read(
     framing: Framing,
     bytes: &[u8],
@@ -69,7 +69,7 @@ fn show_answer(answer: Result<(), FeedError>, into: &mut String) -> Result<(), A
     }
 }
 
-/// The messages of some input, and its fault.
+/// Returns the messages of some input, and its fault.
 fn framed(alloc: Global, words: &mut Words<'_>) -> Result<String, AllocError> {
     let framing = framing_of(words.bytes());
     let size = words.number() as usize;
@@ -83,8 +83,8 @@ fn framed(alloc: Global, words: &mut Words<'_>) -> Result<String, AllocError> {
     Ok(answer)
 }
 
-/// How many messages some input has, and its fault. The input is runs of bytes: what is repeated, and
-/// how often.
+/// Returns how many messages some input has, and its fault. The input is runs of bytes: what is
+/// repeated, and how often.
 fn counted(alloc: Global, words: &mut Words<'_>) -> Result<String, AllocError> {
     let framing = framing_of(words.bytes());
     let mut bytes = Vec::new(alloc);
@@ -101,7 +101,7 @@ fn counted(alloc: Global, words: &mut Words<'_>) -> Result<String, AllocError> {
     Ok(answer)
 }
 
-/// What a framer answers to each piece.
+/// Returns what a framer answers to each piece.
 fn fed_again(alloc: Global, words: &mut Words<'_>) -> Result<String, AllocError> {
     let mut framer = Framer::new(alloc, framing_of(words.bytes()));
     let mut messages = Rows::new(alloc);
@@ -114,7 +114,7 @@ fn fed_again(alloc: Global, words: &mut Words<'_>) -> Result<String, AllocError>
     Ok(answer)
 }
 
-/// The bytes that frame some messages.
+/// Returns the bytes that frame some messages.
 fn encoded(alloc: Global, words: &[Vec<u8>]) -> Result<String, AllocError> {
     let messages = messages_of(alloc, words)?;
     if !are_within_limits(&messages) {

@@ -5,7 +5,7 @@ use com_text::{Name, Rows, Text, TextError};
 use std::alloc::{AllocError, Global};
 use std::mem;
 
-/// What a call on messages answers: None where it is no such call.
+/// Returns what a call on messages answers: None for any other call.
 pub fn answer(
     alloc: Global,
     call: &[u8],
@@ -21,7 +21,7 @@ pub fn answer(
     Ok(Some(answer))
 }
 
-/// The text of a word, and an empty one where it is none.
+/// Returns the text of a word, and an empty one where it is none.
 pub fn text_of(alloc: Global, word: &[u8]) -> Result<Text, AllocError> {
     match Text::read(alloc, word) {
         Ok(text) => Ok(text),
@@ -30,7 +30,7 @@ pub fn text_of(alloc: Global, word: &[u8]) -> Result<Text, AllocError> {
     }
 }
 
-/// The end that a word names: None where it names none.
+/// Returns the end that a word names: None where it names none.
 pub fn end_of(word: &[u8]) -> Option<End> {
     match word {
         b"Emi" => Some(End::Emi),
@@ -39,7 +39,7 @@ pub fn end_of(word: &[u8]) -> Option<End> {
     }
 }
 
-/// The messages of some words: the segments of each, and then its end.
+/// Returns the messages of some words: the segments of each, and then its end.
 pub fn messages_of(alloc: Global, words: &[Vec<u8>]) -> Result<Vec<RawMessage>, AllocError> {
     let mut messages = Vec::new(alloc);
     let mut segments = Rows::new(alloc);
@@ -93,8 +93,8 @@ fn are_within_limits(alloc: Global, words: &[Vec<u8>]) -> Result<String, AllocEr
     Ok(answer)
 }
 
-/// What takes of one kind and size give until nothing is left of a message: of each its text and its
-/// END KEY.
+/// Returns what takes of one kind and size give until nothing is left of a message: of each its
+/// text and its END KEY.
 fn takes(alloc: Global, words: &mut Words<'_>) -> Result<String, AllocError> {
     let kind = match words.bytes() {
         b"Message" => Kind::Message,
@@ -110,7 +110,7 @@ fn takes(alloc: Global, words: &mut Words<'_>) -> Result<String, AllocError> {
     Ok(answer)
 }
 
-/// The rest of a message of which nothing is taken: None of one without a segment.
+/// Returns the rest of a message of which nothing is taken: None of one without a segment.
 fn rest_of(message: RawMessage) -> Option<Rest> {
     if message.segments.is_empty() {
         return None;

@@ -6,7 +6,7 @@ use com_msg::{Advance, End, Open, OutMessage};
 use com_text::Rows;
 use std::alloc::{AllocError, Global};
 
-/// What a call on messages to terminals answers: None where it is no such call.
+/// Returns what a call on messages to terminals answers: None for any other call.
 pub fn answer(
     alloc: Global,
     call: &[u8],
@@ -20,7 +20,7 @@ pub fn answer(
     Ok(Some(answer))
 }
 
-/// The advance that two words name.
+/// Returns the advance that two words name.
 fn advance_of(words: &mut Words<'_>) -> Advance {
     let word = words.bytes();
     let lines = words.number().min(255) as u8;
@@ -54,7 +54,7 @@ fn send(
     }
 }
 
-/// The messages that SENDs build, each SEND a text, an indicator and an advance.
+/// Returns the messages that SENDs build, each SEND a text, an indicator and an advance.
 fn build_all(alloc: Global, words: &mut Words<'_>) -> Result<String, AllocError> {
     let mut answer = String::new(alloc);
     let mut open = Open::new(alloc);
@@ -78,7 +78,7 @@ fn show(message: &OutMessage, into: &mut String) -> Result<(), AllocError> {
     write!(into, "{:?} ", message.end)
 }
 
-/// What a terminal is sent after some bytes, for the messages that SENDs build.
+/// Returns what a terminal is sent after some bytes, for the messages that SENDs build.
 fn render_all(alloc: Global, words: &mut Words<'_>) -> Result<String, AllocError> {
     let mut sent = Rows::new(alloc);
     sent.extend_from_slice(words.bytes())?;

@@ -31,7 +31,7 @@ impl Cases for Calls {
 }
 
 impl Calls {
-    /// What the calls answer that read pieces.
+    /// Returns what the calls answer that read pieces.
     fn of_network(&self, call: &[u8], words: &mut Words<'_>) -> Result<String, AllocError> {
         match call {
             b"read" => self.read(0, words.rest()),
@@ -49,7 +49,7 @@ impl Calls {
         self.pieces.define(name, count, words.bytes())
     }
 
-    /// The network of pieces, filled up by a comment to a length.
+    /// Returns the network of pieces, filled up by a comment to a length.
     fn net(&self, length: usize, names: &[Vec<u8>]) -> Result<Net, NetError> {
         let bytes = self.pieces.joined(length, names)?;
         Net::read(self.alloc, &bytes)

@@ -5,7 +5,7 @@ use com_text::Text;
 use com_tree::{Choose, TreeRow};
 use std::alloc::{AllocError, Global};
 
-/// The kind of a fault and its path.
+/// Returns the kind of a fault and its path.
 pub fn fault_text(alloc: Global, fault: &NetFault) -> Result<String, AllocError> {
     let path = str::from_utf8(fault.path.as_bytes()).unwrap_or("?");
     match fault.kind {
@@ -14,7 +14,8 @@ pub fn fault_text(alloc: Global, fault: &NetFault) -> Result<String, AllocError>
     }
 }
 
-/// The parts of a network: terminals, nodes, the queues' passwords, the leaves' flags, units.
+/// Returns the parts of a network: terminals, nodes, the queues' passwords, the leaves' flags,
+/// units.
 pub fn network_text(alloc: Global, net: &Net) -> Result<String, AllocError> {
     let mut text = String::new(alloc);
     for terminal in net.terminals.as_slice() {

@@ -34,8 +34,8 @@ impl Pieces {
         String::from_str(self.alloc, "defined")
     }
 
-    /// The pieces of these names, one after the other, and a comment up to a length. What is no
-    /// piece stands for itself.
+    /// Returns the pieces of these names, one after the other, and a comment up to a length. What
+    /// is no piece stands for itself.
     pub fn joined(&self, length: usize, names: &[Vec<u8>]) -> Result<Vec<u8>, AllocError> {
         let mut bytes = Vec::new(self.alloc);
         for name in names {
@@ -47,7 +47,7 @@ impl Pieces {
         Ok(bytes)
     }
 
-    /// The text of the last piece of a name.
+    /// Returns the text of the last piece of a name.
     fn text_of<'a>(&'a self, name: &'a [u8]) -> &'a [u8] {
         let mut found = name;
         for piece in &self.pieces {

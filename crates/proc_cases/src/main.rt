@@ -1,7 +1,7 @@
 //! Cases of Procedure Divisions. Each line of `stdin` is a division: `division` has its source, and
-//! `sentences` the lines of its one paragraph in area B. `repeated` and `paragraphs` make long ones: they have
-//! a line, how many lines of a kind come after it, and the lines at the end, each from column 8. `stdout` has
-//! the first fault, or `ok`.
+//! `sentences` the lines of its one paragraph in area B. `repeated` and `paragraphs` make long
+//! ones: they have a line, how many lines of a kind come after it, and the lines at the end, each
+//! from column 8. `stdout` has the first fault, or `ok`.
 #![tactic(auto)]
 
 use case_lines::{Cases, Words, answer_cases, unknown_call};
@@ -37,7 +37,7 @@ impl Cases for Divisions {
     }
 }
 
-/// The source of a division with one paragraph, whose lines stand in area B from line 3.
+/// Returns the source of a division with one paragraph, whose lines stand in area B from line 3.
 fn paragraph(alloc: Global, words: &mut Words<'_>) -> Result<Vec<u8>, AllocError> {
     let mut source = Vec::new(alloc);
     source.extend_from_slice(b"       PROCEDURE DIVISION.\n       MAIN.\n")?;
@@ -57,8 +57,8 @@ fn push_line(source: &mut Vec<u8>, line: &[u8]) -> Result<(), AllocError> {
     Ok(())
 }
 
-/// The source of a division with one paragraph: from line 3 on a line, the next one as many times as the
-/// number between them says, and the others.
+/// Returns the source of a division with one paragraph: from line 3 on a line, the next one as many
+/// times as the number between them says, and the others.
 fn repeated_line(alloc: Global, words: &mut Words<'_>) -> Result<Vec<u8>, AllocError> {
     let mut source = Vec::new(alloc);
     push_line(&mut source, b"PROCEDURE DIVISION.")?;
@@ -75,8 +75,8 @@ fn repeated_line(alloc: Global, words: &mut Words<'_>) -> Result<Vec<u8>, AllocE
     Ok(source)
 }
 
-/// The source of a division: from line 2 on a line, as many paragraphs P0, P1 .. as the number says, and
-/// the other lines.
+/// Returns the source of a division: from line 2 on a line, as many paragraphs P0, P1 .. as the
+/// number says, and the other lines.
 fn many_paragraphs(alloc: Global, words: &mut Words<'_>) -> Result<Vec<u8>, AllocError> {
     let mut source = Vec::new(alloc);
     push_line(&mut source, b"PROCEDURE DIVISION.")?;
@@ -91,7 +91,7 @@ fn many_paragraphs(alloc: Global, words: &mut Words<'_>) -> Result<Vec<u8>, Allo
     Ok(source)
 }
 
-/// The first fault of a source, of its tokens or else of its division.
+/// Returns the first fault of a source, of its tokens or else of its division.
 fn first_fault(alloc: Global, source: &[u8]) -> Result<String, AllocError> {
     if source.len() > MAX_SOURCE {
         return String::from_str(alloc, "a source that is too long");
@@ -108,7 +108,7 @@ fn first_fault(alloc: Global, source: &[u8]) -> Result<String, AllocError> {
     }
 }
 
-/// A fault with its line and column.
+/// Returns a fault with its line and column.
 fn fault_text(alloc: Global, fault: SourceFault) -> Result<String, AllocError> {
     let (kind, line, column) = (fault.kind, fault.line, fault.column);
     format!(in alloc; "{kind:?} {line}:{column}")

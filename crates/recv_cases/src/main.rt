@@ -1,5 +1,5 @@
-//! Cases of queues. Each line of `stdin` is a call with its arguments, and `stdout` has what it is to
-//! answer.
+//! Cases of queues. Each line of `stdin` is a call with its arguments, and `stdout` has what it is
+//! to answer.
 #![tactic(auto)]
 
 mod queues;

@@ -1,8 +1,8 @@
 //! Queues: what units are given, in which order, and what stays.
 //!
 //! A line has the number of its nodes and, for each, a depth, a name, and `ordered`, `oldest` or
-//! `leaf`; the number of its messages and, for each, a leaf, an end and a text; and then calls, each
-//! of which answers something.
+//! `leaf`; the number of its messages and, for each, a leaf, an end and a text; and then calls,
+//! each of which answers something.
 ghost use Rattle.std.specs.Prelude.{◌≡◌, ◌<◌, ◌+◌, [], IfOk, IfSome, length};
 ghost use Rattle.std.specs.List.{All};
 ghost use Rattle.com_recv.specs.Incoming.{IsTreeOf};

@@ -19,7 +19,7 @@ pub fn new(alloc: Global, words: &mut Words<'_>) -> Result<Outs, AllocError> {
     Outs::new(alloc, destinations, u32::try_from(units).unwrap_or(0))
 }
 
-/// A destination by its name, its password, and whether it is enabled.
+/// Returns a destination by its name, its password, and whether it is enabled.
 fn destination(alloc: Global, row: &[Vec<u8>]) -> Result<Option<Destination>, AllocError> {
     let [name, password, flag] = row else {
         return Ok(None);
@@ -34,7 +34,7 @@ fn destination(alloc: Global, row: &[Vec<u8>]) -> Result<Option<Destination>, Al
     Ok(Some(Destination { name, password, on }))
 }
 
-/// The text of these bytes: None where they are no text.
+/// Returns the text of these bytes: None where they are no text.
 fn text(alloc: Global, bytes: &[u8]) -> Result<Option<Text>, AllocError> {
     match Text::read(alloc, bytes) {
         Ok(text) => Ok(Some(text)),
@@ -81,7 +81,7 @@ pub fn switch(
     format!(in alloc; "{}", Quoted(area.as_bytes()))
 }
 
-/// The stop of a unit.
+/// Stops a unit.
 pub fn stop(alloc: Global, outs: &mut Outs, unit: u64) -> Result<String, AllocError> {
     if unit >= u64::from(outs.units()) {
         return String::from_str(alloc, "no unit");
@@ -90,7 +90,7 @@ pub fn stop(alloc: Global, outs: &mut Outs, unit: u64) -> Result<String, AllocEr
     String::from_str(alloc, "stopped")
 }
 
-/// The bytes that were transmitted to a destination.
+/// Returns the bytes that were transmitted to a destination.
 pub fn transmitted(alloc: Global, outs: &Outs, destination: u64) -> Result<String, AllocError> {
     if destination >= outs.destinations().len() as u64 || destination > u64::from(u32::MAX) {
         return String::from_str(alloc, "no destination");

@@ -1,6 +1,6 @@
-//! Cases of SEND, ENABLE OUTPUT and DISABLE OUTPUT. Each line of `stdin` is a call with its arguments,
-//! and `stdout` has what it is to answer. `outs` begins anew with so many units, and with
-//! destinations by their names, passwords and whether they are enabled.
+//! Cases of SEND, ENABLE OUTPUT and DISABLE OUTPUT. Each line of `stdin` is a call with its
+//! arguments, and `stdout` has what it is to answer. `outs` begins anew with so many units, and
+//! with destinations by their names, passwords and whether they are enabled.
 #![tactic(auto)]
 
 mod calls;

@@ -36,7 +36,7 @@ fn advance(word: &[u8]) -> Option<Advance>
     }
 }
 
-/// How many lines a terminal advances.
+/// Returns how many lines a terminal advances.
 fn lines(digits: &[u8]) -> Option<u8>
     ensures { IfSome result (λ lines. lines ≤ MAX_LINES) }
 {

@@ -1,9 +1,9 @@
-//! Cases of COBOL sources, which go through three passes: their tokens, their divisions up to the word
-//! PROCEDURE, and their Procedure Division. Each line of `stdin` is a source: `division` has it whole,
-//! `items` the lines of its Working-Storage Section from line 5, and `entries` those of its Communication
-//! Section. `names` makes as many items as its number says, and has the lines behind them. `stdout` has the
-//! first fault, or the items and CDs with where their characters are; `opening` is like `items`, and `stdout`
-//! has the characters with which the areas begin.
+//! Cases of COBOL sources, which go through three passes: their tokens, their divisions up to the
+//! word PROCEDURE, and their Procedure Division. Each line of `stdin` is a source: `division` has
+//! it whole, `items` the lines of its Working-Storage Section from line 5, and `entries` those of
+//! its Communication Section. `names` makes as many items as its number says, and has the lines
+//! behind them. `stdout` has the first fault, or the items and CDs with where their characters are;
+//! `opening` is like `items`, and `stdout` has the characters with which the areas begin.
 #![tactic(auto)]
 
 ghost use Rattle.std.specs.Prelude.{◌≤◌, IfOk, length};
@@ -83,8 +83,8 @@ fn source_with(
     Ok(source)
 }
 
-/// A source of as many items N0, N1 .. as the number says, each in a line from line 5 on, and the lines behind
-/// it.
+/// A source of as many items N0, N1 .. as the number says, each in a line from line 5 on, and the
+/// lines behind it.
 fn source_of_names(alloc: Global, words: &mut Words<'_>) -> Result<Vec<u8>, AllocError> {
     let mut source = head(alloc, b"WORKING-STORAGE")?;
     for number in 0..words.number() {

@@ -1,5 +1,5 @@
-//! Cases of stores, sources and clocks in memory. Each line of `stdin` is a call with its arguments,
-//! and `stdout` has what it is to answer. `store` begins anew with an empty store.
+//! Cases of stores, sources and clocks in memory. Each line of `stdin` is a call with its
+//! arguments, and `stdout` has what it is to answer. `store` begins anew with an empty store.
 #![tactic(auto)]
 
 mod calls;

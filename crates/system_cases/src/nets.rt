@@ -22,7 +22,7 @@ unit = [
 ]
 ";
 
-/// The description with a name, and an empty one where there is none.
+/// Returns the description with a name, and an empty one where there is none.
 pub fn description(name: &[u8]) -> &'static [u8] {
     match name {
         b"one" => ONE,

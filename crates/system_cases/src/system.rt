@@ -25,7 +25,8 @@ pub enum Asked {
     Times,
 }
 
-/// What calls come to on the opening system of a description. The system is let go here alone.
+/// Returns what calls come to on the opening system of a description. The system is let go here
+/// alone.
 pub fn outcome(
     alloc: Global,
     description: &[u8],
@@ -41,8 +42,8 @@ pub fn outcome(
     }
 }
 
-/// The replies to these calls, up to the first that is none or not allowed. `show NAME` in the place
-/// of a call stands for what was transmitted to that terminal.
+/// Returns the replies to these calls, up to the first that is none or not allowed. `show NAME` in
+/// the place of a call stands for what was transmitted to that terminal.
 fn answers(alloc: Global, state: &mut State, calls: &[Vec<u8>]) -> Result<String, AllocError> {
     let mut out = String::new(alloc);
     for text in calls {
@@ -60,7 +61,7 @@ fn answers(alloc: Global, state: &mut State, calls: &[Vec<u8>]) -> Result<String
     Ok(out)
 }
 
-/// How often a call is allowed, of a number of times, after a call that is made once.
+/// Returns how often a call is allowed, of a number of times, after a call that is made once.
 fn times_allowed(
     alloc: Global,
     state: &mut State,
@@ -78,7 +79,7 @@ fn times_allowed(
     format!(in alloc; "{allowed}")
 }
 
-/// The opening system of a description's network, where it describes one.
+/// Returns the opening system of a description's network, where it describes one.
 fn opened(alloc: Global, description: &[u8]) -> Result<Option<State>, AllocError> {
     match Net::read(alloc, description) {
         Ok(net) => Ok(Some(State::open(&net)?)),

@@ -35,8 +35,8 @@ use com_events::{Call, EndReason, Party, StopReason};
 use com_msg::Kind;
 
 impl State {
-    /// Whether a call is allowed, which is exactly if the system has a step for it. An unknown
-    /// party has no call, and a party has none of the other sort's.
+    /// Returns whether a call is allowed, which is exactly if the system has a step for it. An
+    /// unknown party has no call, and a party has none of the other sort's.
     pub fn may(&self, party: &Party, call: &Call) -> bool
         ensures { result ≡ is_some (step self.now party.now call.now) }
     {
@@ -52,7 +52,7 @@ impl State {
         }
     }
 
-    /// Whether a unit waits and its RECEIVE has something to go on with.
+    /// Returns whether a unit waits and its RECEIVE has something to go on with.
     pub fn ready(&self, unit: u32) -> bool
         requires { unit < length self.now.net.units }
         ensures { result ≡ is_unit_ready self.now unit }
@@ -63,7 +63,7 @@ impl State {
         }
     }
 
-    /// Whether nothing can happen any more: no unit and no terminal can go on.
+    /// Returns whether nothing can happen any more: no unit and no terminal can go on.
     pub fn idle(&self) -> bool
         ensures { result ≡ is_idle self.now }
     {
@@ -116,7 +116,7 @@ impl State {
         }
     }
 
-    /// A unit starts that is dormant and whose schedule, where it has one, has a message.
+    /// Returns a unit starts that is dormant and whose schedule, where it has one, has a message.
     fn may_start(&self, unit: u32) -> bool
         requires { unit < length self.now.units }
         ensures { result ≡ (is_dormant (unit_mode self.now unit)
@@ -125,7 +125,7 @@ impl State {
         self.is_dormant(unit) && self.has_start(unit)
     }
 
-    /// A unit does a verb that runs and has not done all its verbs.
+    /// Returns a unit does a verb that runs and has not done all its verbs.
     fn may_do(&self, unit: u32) -> bool
         requires { unit < length self.now.units }
         ensures { result ≡ (is_running (unit_mode self.now unit) && may_do_verb self.now unit) }
@@ -133,7 +133,7 @@ impl State {
         self.is_running(unit) && self.may_do_verb(unit)
     }
 
-    /// A unit receives that runs, or that waits with this RECEIVE and can go on.
+    /// Returns a unit receives that runs, or that waits with this RECEIVE and can go on.
     fn may_receive(&self, unit: u32, area: &InArea, kind: Kind, size: u32, no_data: bool) -> bool
         requires { unit < length self.now.units }
         ensures { result ≡ (may_do_verb self.now unit && (is_running (unit_mode self.now unit)
@@ -146,7 +146,7 @@ impl State {
                     && self.is_ready(unit, area)))
     }
 
-    /// Whether a unit waits with this RECEIVE, which has no NO DATA.
+    /// Returns whether a unit waits with this RECEIVE, which has no NO DATA.
     fn is_waiting_for(&self, unit: u32, area: &InArea, kind: Kind, size: u32, no_data: bool) -> bool
         requires { unit < length self.now.units }
         ensures { result ≡ is_waiting_for (unit_mode self.now unit) area.now kind size no_data }
@@ -187,7 +187,7 @@ impl State {
         matches!(self.unit_mode(unit), UnitMode::Dormant)
     }
 
-    /// Whether a unit has not started or waits.
+    /// Returns whether a unit has not started or waits.
     fn waits_or_sleeps(&self, unit: u32) -> bool
         requires { unit < length self.now.units }
         ensures { result ≡ waits_or_sleeps (unit_mode self.now unit) }
@@ -198,7 +198,7 @@ impl State {
         }
     }
 
-    /// Whether a unit has no schedule, or a message waits under its node.
+    /// Returns whether a unit has no schedule, or a message waits under its node.
     fn has_start(&self, unit: u32) -> bool
         requires { unit < length self.now.units }
         ensures { result ≡ is_some (start self.now unit (schedule_of self.now.net unit)) }
@@ -239,7 +239,7 @@ impl State {
         }
     }
 
-    /// Whether a message of a terminal may come in.
+    /// Returns whether a message of a terminal may come in.
     fn may_come_in(&self, terminal: u32) -> bool
         requires { terminal < length self.now.terminals }
         ensures { result ≡ ((is_path_open self.now terminal
@@ -249,7 +249,7 @@ impl State {
         self.is_path_open(terminal) && !self.has_ended(terminal) && self.may_arrive(terminal)
     }
 
-    /// Whether a terminal may hold its next message.
+    /// Returns whether a terminal may hold its next message.
     fn may_hold(&self, terminal: u32) -> bool
         requires { terminal < length self.now.terminals }
         ensures { result ≡ (((is_some (feed_of self.now.net terminal)

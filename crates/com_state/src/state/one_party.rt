@@ -39,7 +39,7 @@ use com_tree::{Leaf, Node};
 use std::alloc::AllocError;
 
 impl State {
-    /// The number of the unit with a name.
+    /// Returns the number of the unit with a name.
     pub(crate) fn unit(&self, name: &Name) -> Option<u32>
         ensures number { unit_number self.now.net name.now ≡ result }
         ensures within { IfSome result (λ unit. unit < length self.now.units) }
@@ -47,7 +47,7 @@ impl State {
         self.net.unit(name)
     }
 
-    /// The number of the terminal with a name.
+    /// Returns the number of the terminal with a name.
     pub(crate) fn terminal(&self, name: &Name) -> Option<u32>
         ensures number { terminal_number self.now.net name.now ≡ result }
         ensures within { IfSome result (λ terminal. terminal < length self.now.terminals) }
@@ -69,7 +69,7 @@ impl State {
         self.terminals[terminal as usize].mode
     }
 
-    /// Whether a unit has not done all its verbs.
+    /// Returns whether a unit has not done all its verbs.
     pub(crate) fn may_do_verb(&self, unit: u32) -> bool
         requires { unit < length self.now.units }
         ensures { result ≡ may_do_verb self.now unit }
@@ -77,7 +77,7 @@ impl State {
         self.units[unit as usize].verbs < MAX_VERBS
     }
 
-    /// Whether not all messages that a terminal may have have arrived.
+    /// Returns whether not all messages that a terminal may have have arrived.
     pub(crate) fn may_arrive(&self, terminal: u32) -> bool
         requires { terminal < length self.now.terminals }
         ensures { result ≡ may_arrive self.now terminal }
@@ -85,7 +85,7 @@ impl State {
         self.terminals[terminal as usize].arrivals < MAX_ARRIVALS
     }
 
-    /// The node under which a message starts a unit, where it has a schedule.
+    /// Returns the node under which a message starts a unit, where it has a schedule.
     pub(crate) fn schedule(&self, unit: u32) -> Option<Node>
         requires { unit < length self.now.units }
         ensures schedule { result ≡ schedule_of self.now.net unit }
@@ -94,7 +94,7 @@ impl State {
         self.net.units.as_slice()[unit as usize].schedule
     }
 
-    /// The leaf that a terminal's messages wait on, where it has a route.
+    /// Returns the leaf that a terminal's messages wait on, where it has a route.
     pub(crate) fn route(&self, terminal: u32) -> Option<Leaf>
         requires { terminal < length self.now.terminals }
         ensures leaf { result ≡ option_map (λ feed. feed.leaf) (feed_of self.now.net terminal) }
@@ -106,7 +106,7 @@ impl State {
         }
     }
 
-    /// Whether a terminal has a route, and its input and the route's leaf are enabled.
+    /// Returns whether a terminal has a route, and its input and the route's leaf are enabled.
     pub(crate) fn is_path_open(&self, terminal: u32) -> bool
         requires { terminal < length self.now.terminals }
         ensures { result ≡ is_path_open self.now terminal }
@@ -131,7 +131,7 @@ impl State {
         self.terminals[terminal as usize].mode = mode;
     }
 
-    /// One more verb of a unit is done, and the unit runs.
+    /// Counts one more verb of a unit, which runs.
     pub(crate) fn verb_done(&mut self, unit: u32)
         requires unit { unit < length self.old.units }
         requires verbs { IsTrue (may_do_verb self.old unit) }
@@ -144,7 +144,7 @@ impl State {
         };
     }
 
-    /// The number of the next message that arrives.
+    /// Returns the number of the next message that arrives.
     pub(crate) fn next_number(&self) -> u64
         ensures next { result ≡ self.now.arrivals + 1 }
         ensures few { (1 ≤ result) × (result < 10 ^ 18) }
@@ -152,7 +152,7 @@ impl State {
         self.arrivals + 1
     }
 
-    /// A message comes to wait on a leaf after all others, and its terminal feeds. If memory runs
+    /// Puts a message on a leaf after all others, and lets its terminal feed. If memory runs
     /// out, nothing changes.
     pub(crate) fn put(
         &mut self,

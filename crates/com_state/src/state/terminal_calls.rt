@@ -47,7 +47,7 @@ impl State {
         }
     }
 
-    /// A message comes in: it waits after all others on the leaf of the terminal's route, and the
+    /// Takes in a message: it waits after all others on the leaf of the terminal's route, and the
     /// terminal feeds.
     fn arrive(
         &mut self,

@@ -70,7 +70,7 @@ impl State {
         }
     }
 
-    /// The unit runs. With a schedule it is handed the names of the leaf that has the message.
+    /// Lets the unit run. With a schedule it is handed the names of the leaf that has the message.
     fn start(&mut self, unit: u32) -> Reply
         requires unit { unit < length self.old.units }
         requires may { IsTrue (is_some (unit_step self.old unit made.Start)) }
@@ -82,8 +82,8 @@ impl State {
         Reply::Started { names }
     }
 
-    /// The names of the leaf that the node of a unit's schedule chooses, where a message waits
-    /// there.
+    /// Returns the names of the leaf that the node of a unit's schedule chooses, where a message
+    /// waits there.
     fn names_at_start(&self, unit: u32) -> Option<[u8; MAX_NAMES * FIELD_LENGTH]>
         requires { unit < length self.now.units }
         ensures choice { result ≡ option_and_then (λ node.
@@ -98,7 +98,7 @@ impl State {
         }
     }
 
-    /// The names of the leaf that a node chooses, where a message waits under it.
+    /// Returns the names of the leaf that a node chooses, where a message waits under it.
     fn names_of_choice(&self, node: Node) -> Option<[u8; MAX_NAMES * FIELD_LENGTH]>
         requires { node.row < length self.now.net.tree }
         ensures choice { result ≡ option_map (λ leaf. path_fields (path_of_leaf self.now.net.tree leaf))
@@ -219,7 +219,7 @@ impl State {
         Ok(reply)
     }
 
-    /// What a unit holds and has begun to send is gone.
+    /// Drops what a unit holds and has begun to send.
     fn drop_unit(&mut self, unit: u32)
         requires { unit < length self.old.units }
         ensures { self.new ≡ record self.old {
@@ -234,7 +234,7 @@ impl State {
     }
 }
 
-/// The four name fields of a path.
+/// Returns the four name fields of a path.
 fn fields_of(path: &NamePath) -> [u8; MAX_NAMES * FIELD_LENGTH]
     ensures fields { result ≡ path_fields path.now }
     ensures names { AreNames result }

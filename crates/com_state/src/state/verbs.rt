@@ -46,7 +46,7 @@ use com_tree::Node;
 use std::alloc::AllocError;
 
 impl State {
-    /// Whether a RECEIVE of a unit has something to go on with.
+    /// Returns whether a RECEIVE of a unit has something to go on with.
     pub(crate) fn is_ready(&self, unit: u32, area: &InArea) -> bool
         ensures { result ≡ is_ready self.now unit area.now }
     {
@@ -56,8 +56,8 @@ impl State {
         }
     }
 
-    /// Whether a RECEIVE of a unit has to wait: it has no NO DATA, the area designates a node, and
-    /// there is nothing to go on with.
+    /// Returns whether a RECEIVE of a unit has to wait: it has no NO DATA, the area designates a
+    /// node, and there is nothing to go on with.
     pub(crate) fn has_to_wait(&self, unit: u32, area: &InArea, no_data: bool) -> bool
         ensures { result ≡ not ((no_data || is_none (designated self.now.net.tree area.now))
             || is_ready self.now unit area.now) }
@@ -85,7 +85,7 @@ impl State {
         Ok(receive_told(taken, area))
     }
 
-    /// The area that tells how many messages wait.
+    /// Returns the area with the number of messages that wait.
     pub(crate) fn counted(&self, mut area: InArea) -> InArea
         ensures { result ≡ count self.now.net.tree self.now.incoming area }
     {
@@ -181,7 +181,7 @@ impl State {
         told(area, Status::S00)
     }
 
-    /// Whether a key is the password of the tree of a node.
+    /// Returns whether a key is the password of the tree of a node.
     fn is_key_of_tree(&self, node: Node, key: &Text) -> bool
         requires { node.row < length self.now.net.tree }
         ensures { result ≡ is_key key.now
@@ -192,7 +192,7 @@ impl State {
     }
 }
 
-/// The reply with an area that tells a status key.
+/// Returns the reply with an area that has a status key.
 fn told(mut area: InArea, status: Status) -> Reply
     ensures told { result ≡ reply.AreaIn (with_status status area) }
     ensures area { IsReplyTo (made.Count area) result }
@@ -201,7 +201,7 @@ fn told(mut area: InArea, status: Status) -> Reply
     Reply::AreaIn { area }
 }
 
-/// The reply with an area after SEND, ENABLE OUTPUT and DISABLE OUTPUT.
+/// Returns the reply with an area after SEND, ENABLE OUTPUT and DISABLE OUTPUT.
 fn output_told(area: OutArea) -> Reply
     ensures told { result ≡ reply.AreaOut area }
     ensures area { IsOutputArea area }
@@ -209,7 +209,7 @@ fn output_told(area: OutArea) -> Reply
     Reply::AreaOut { area }
 }
 
-/// The reply to a RECEIVE, by what was taken and what the area tells.
+/// Returns the reply to a RECEIVE, by what was taken and the area.
 fn receive_told(taken: Taken, area: InArea) -> Reply
     requires { IsShort taken }
     ensures told { result ≡ reply_of taken area }
@@ -223,7 +223,7 @@ fn receive_told(taken: Taken, area: InArea) -> Reply
     }
 }
 
-/// The place of the destination whose name a field holds.
+/// Returns the place of the destination whose name a field holds.
 fn place_of(destinations: &[Destination], field: &[u8]) -> Option<usize>
     ensures place { result ≡ destination_with destinations.now field.now }
     ensures within { IfSome result (λ place. place < length destinations.now) }
