@@ -111,7 +111,7 @@ fn plain_front(bytes: &[u8]) -> Front
     }
 }
 
-/// Returns a word or a number: a longest run of letters, digits and hyphens.
+/// Reads a word or a number: a longest run of letters, digits and hyphens.
 fn run_front(run: &[u8]) -> Front
     ensures { result ≡ run_front run.now }
 {
@@ -127,7 +127,7 @@ fn run_front(run: &[u8]) -> Front
     }
 }
 
-/// Returns a literal, by the bytes after its opening quotation mark. It may have 120 characters,
+/// Reads a literal, by the bytes after its opening quotation mark. It may have 120 characters,
 /// which is more than a line holds.
 fn literal_front(rest: &[u8]) -> Front
     requires in_line { length rest.now < 72 }

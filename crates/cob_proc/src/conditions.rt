@@ -80,7 +80,7 @@ fn take_tested(
     take_compared(alloc, Operand::Item(item), denied, tokens)
 }
 
-/// Returns a simple condition.
+/// Reads a simple condition.
 #[tactic(auto, unfolding(crate::specs::PartReaders::simple, crate::specs::PartReaders::perhaps_denied))]
 fn take_simple(alloc: Global, tokens: &[Token]) -> Result<(Simple, &[Token]), Stop>
     ensures gives { Gives (λ x. (x.0, x.1.now)) result (simple tokens.now) }
@@ -98,7 +98,7 @@ fn take_simple(alloc: Global, tokens: &[Token]) -> Result<(Simple, &[Token]), St
     take_compared(alloc, left, denied, skip_word(rest, b"NOT"))
 }
 
-/// Returns a further simple condition, after a word.
+/// Reads a further simple condition, after a word.
 #[tactic(auto, unfolding(crate::specs::PartReaders::joined_part))]
 fn take_joined_part<'a>(
     alloc: Global,
@@ -134,7 +134,7 @@ fn take_joined<'a>(
     Ok((Rows::of_vec(parts), rest))
 }
 
-/// Returns a condition.
+/// Reads a condition.
 #[tactic(auto, unfolding(crate::specs::PartReaders::condition))]
 pub(crate) fn take_condition(alloc: Global, tokens: &[Token]) -> Result<(Condition, &[Token]), Stop>
     ensures gives { Gives (λ x. (x.0, x.1.now)) result (condition tokens.now) }

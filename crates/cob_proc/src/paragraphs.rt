@@ -14,7 +14,7 @@ use cob_lex::{Token, TokenKind};
 use com_text::Rows;
 use std::alloc::Global;
 
-/// Returns a sentence: one statement or more, and a period.
+/// Reads a sentence: one statement or more, and a period.
 #[tactic(auto, unfolding(crate::specs::DivisionReaders::read_sentence))]
 fn take_sentence(
     alloc: Global,
@@ -49,7 +49,7 @@ fn take_sentences(
     Ok((Rows::of_vec(list), rest))
 }
 
-/// Returns a paragraph: its name, a period, and its sentences.
+/// Reads a paragraph: its name, a period, and its sentences.
 #[tactic(auto, unfolding(crate::specs::DivisionReaders::read_paragraph))]
 fn take_paragraph(
     alloc: Global,

@@ -28,7 +28,7 @@ fn take_subscript_value(position: Position, tokens: &[Token]) -> Result<(Subscri
     Ok((Subscript::Number { position, number }, rest))
 }
 
-/// Returns a subscript with its parentheses.
+/// Reads a subscript with its parentheses.
 #[tactic(auto, unfolding(crate::specs::PartReaders::subscript))]
 fn take_subscript(tokens: &[Token]) -> Result<(Subscript, &[Token]), Stop>
     ensures gives { Gives (λ x. (x.0, x.1.now)) result (subscript tokens.now) }
@@ -50,7 +50,7 @@ fn next_is_subscript(tokens: &[Token]) -> bool
     }
 }
 
-/// Returns a subscript, or none where none comes next.
+/// Reads a subscript, or none where none comes next.
 fn take_optional_subscript(tokens: &[Token]) -> Result<(Option<Subscript>, &[Token]), Stop>
     ensures gives { Gives (λ x. (x.0, x.1.now)) result (maybe (begins_form forms.subscript) subscript tokens.now) }
     ensures no_more { IfOk result (λ x. length x.1.now ≤ length tokens.now) }
@@ -62,7 +62,7 @@ fn take_optional_subscript(tokens: &[Token]) -> Result<(Option<Subscript>, &[Tok
     Ok((None, tokens))
 }
 
-/// Returns an identifier.
+/// Reads an identifier.
 #[tactic(auto, unfolding(crate::specs::PartReaders::identifier))]
 pub(crate) fn take_identifier(tokens: &[Token]) -> Result<(Identifier, &[Token]), Stop>
     ensures gives { Gives (λ x. (x.0, x.1.now)) result (identifier tokens.now) }

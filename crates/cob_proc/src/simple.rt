@@ -175,7 +175,7 @@ fn take_stop(tokens: &[Token]) -> Result<(Statement, &[Token]), Stop>
     Ok((Statement::Stop, rest))
 }
 
-/// Returns a statement in which no others stand.
+/// Reads a statement in which no others stand.
 #[tactic(auto, unfolding(crate::specs::StatementReaders::read_plain))]
 pub(crate) fn take_plain(alloc: Global, tokens: &[Token]) -> Result<(Statement, &[Token]), Stop>
     ensures gives { Gives (λ x. (tree_of x.0, x.1.now)) result (stated read_plain tokens.now) }

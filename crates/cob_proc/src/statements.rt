@@ -57,7 +57,7 @@ fn take_receive_alone(alloc: Global, tokens: &[Token]) -> Result<(Statement, &[T
     Ok((statement, rest))
 }
 
-/// Returns a statement inside NO DATA.
+/// Reads a statement inside NO DATA.
 #[tactic(auto, unfolding(crate::specs::DivisionReaders::inner))]
 fn take_inner(alloc: Global, tokens: &[Token]) -> Result<(Statement, &[Token]), Stop>
     ensures gives { Gives (λ x. (tree_of x.0, x.1.now)) result (inner tokens.now) }
@@ -159,7 +159,7 @@ fn take_branch(alloc: Global, depth: usize, tokens: &[Token]) -> Result<(Stateme
     Ok((statement, rest))
 }
 
-/// Returns a statement in which fewer IFs than `depth` stand in one another.
+/// Reads a statement in which fewer IFs than `depth` stand in one another.
 #[cycle(statement)]
 #[tactic(auto, using(crate::proofs::Fuel::statement_steps))]
 fn take_statement(

@@ -116,7 +116,7 @@ impl State {
         }
     }
 
-    /// Returns a unit starts that is dormant and whose schedule, where it has one, has a message.
+    /// Returns whether a unit may start: it is dormant, and its schedule, if any, has a message.
     fn may_start(&self, unit: u32) -> bool
         requires { unit < length self.now.units }
         ensures { result ≡ (is_dormant (unit_mode self.now unit)
@@ -125,7 +125,7 @@ impl State {
         self.is_dormant(unit) && self.has_start(unit)
     }
 
-    /// Returns a unit does a verb that runs and has not done all its verbs.
+    /// Returns whether a unit may do a verb: it runs and has not done all its verbs.
     fn may_do(&self, unit: u32) -> bool
         requires { unit < length self.now.units }
         ensures { result ≡ (is_running (unit_mode self.now unit) && may_do_verb self.now unit) }
@@ -133,7 +133,7 @@ impl State {
         self.is_running(unit) && self.may_do_verb(unit)
     }
 
-    /// Returns a unit receives that runs, or that waits with this RECEIVE and can go on.
+    /// Returns whether a unit may receive: it runs, or waits with this RECEIVE and can go on.
     fn may_receive(&self, unit: u32, area: &InArea, kind: Kind, size: u32, no_data: bool) -> bool
         requires { unit < length self.now.units }
         ensures { result ≡ (may_do_verb self.now unit && (is_running (unit_mode self.now unit)
