@@ -1,13 +1,14 @@
 //! What the names of an input area designate.
-ghost use Rattle.std.specs.Prelude.{◌≡◌, ◌↔◌, ℕ, List, Some};
+ghost use Rattle.std.specs.Prelude.{◌≡◌, ◌↔◌, ℕ, List, Some, length};
+ghost use Rattle.com_text.specs.Text.{IsText};
 ghost use Rattle.com_text.specs.Name.{IsName, field_of};
-ghost use Rattle.com_cd.specs.Designation.{Designates};
+ghost use Rattle.com_cd.specs.Designation.{Designates, names_length, path_fields};
 
 use crate::IN_AREA_LENGTH;
 use com_text::{FIELD_LENGTH, Field, MAX_NAMES, Name, NamePath, has_character};
 
 /// How many characters the name fields of an area have together.
-pub(crate) const NAMES_LENGTH: usize = MAX_NAMES * FIELD_LENGTH;
+pub const NAMES_LENGTH: usize = MAX_NAMES * FIELD_LENGTH;
 
 /// What the four name fields of an input area designate.
 #[derive(Clone, Copy, Debug, PartialEq, Eq)]
@@ -32,6 +33,20 @@ pub(crate) fn path_in(area: &[u8; IN_AREA_LENGTH]) -> Option<NamePath>
         below = rest;
     }
     Some(path)
+}
+
+/// Returns the four name fields of a path: its names, and spaces in the levels below them.
+pub fn path_fields(path: &NamePath) -> [u8; NAMES_LENGTH]
+    ensures fields { result ≡ path_fields path.now }
+    ensures width { length result ≡ names_length }
+    ensures text { IsText result }
+{
+    let mut fields = [b' '; NAMES_LENGTH];
+    for (level, name) in path.names().iter().enumerate() {
+        let first = level * FIELD_LENGTH;
+        fields[first..first + FIELD_LENGTH].copy_from_slice(&name.field());
+    }
+    fields
 }
 
 /// Returns the name that a field holds, followed by spaces.

@@ -2,12 +2,13 @@
 ghost use Rattle.std.specs.Prelude.{◌≡◌, ◌↔◌, ℕ, List, length, IsSome, IfSome};
 ghost use Rattle.com_text.specs.Text.{IsText};
 ghost use Rattle.com_cd.specs.InputArea.{IsInputArea, in_field, set_in, width_of, start_of, opening_area};
-ghost use Rattle.com_cd.specs.Designation.{Designates};
+ghost use Rattle.com_cd.specs.Designation.{Designates, with_path};
+ghost use Rattle.com_cd.specs.Status.{with_input_status};
 
-use crate::designation::{NAMES_LENGTH, path_in};
+use crate::designation::{NAMES_LENGTH, path_fields, path_in};
 use crate::parts::write_part;
-use crate::{Designation, STATUS_LENGTH};
-use com_text::{FIELD_LENGTH, is_text};
+use crate::{Designation, STATUS_LENGTH, Status};
+use com_text::{FIELD_LENGTH, NamePath, is_text};
 use std::marker::Model;
 
 /// How many characters an input area has.
@@ -161,5 +162,22 @@ impl InArea {
         ensures valid { IsInputArea self.new }
     {
         write_part(&mut self.bytes, field.start(), value);
+    }
+
+    /// Writes STATUS KEY, and leaves all other characters as they were.
+    pub fn set_status(&mut self, status: Status)
+        ensures area { self.new ≡ with_input_status status self.old }
+        ensures valid { IsInputArea self.new }
+    {
+        self.set(InField::Status, &status.bytes());
+    }
+
+    /// Writes the names of a path, with spaces in the levels below them, and leaves all other
+    /// characters as they were.
+    pub fn set_path(&mut self, path: &NamePath)
+        ensures area { self.new ≡ with_path path.now self.old }
+        ensures valid { IsInputArea self.new }
+    {
+        write_part(&mut self.bytes, 0, &path_fields(path));
     }
 }

@@ -26,7 +26,7 @@ mod output_area;
 mod parts;
 mod status;
 
-pub use designation::Designation;
+pub use designation::{Designation, NAMES_LENGTH, path_fields};
 pub use input_area::{IN_AREA_LENGTH, InArea, InField};
 pub use output_area::{MAX_OCCURRENCES, MAX_OUT_AREA_LENGTH, OutArea, OutField};
 pub use status::{STATUS_LENGTH, Status};

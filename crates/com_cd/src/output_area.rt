@@ -1,9 +1,10 @@
 //! The area of an output CD.
 ghost use Rattle.std.specs.Prelude.{◌≡◌, ◌↔◌, ◌+◌, ◌*◌, ◌<◌, ◌≤◌, ℕ, List, length, Some, IsSome, IfSome};
 ghost use Rattle.com_text.specs.Text.{IsText};
+ghost use Rattle.com_cd.specs.Status.{with_output_status};
 ghost use Rattle.com_cd.specs.OutputArea.{IsFieldOf, IsOutputArea, destination_count, occurrences_of, opening_output, out_field, out_start, out_width, set_out};
 
-use crate::STATUS_LENGTH;
+use crate::{STATUS_LENGTH, Status};
 use crate::parts::write_part;
 use com_text::{FIELD_LENGTH, is_text, number_of};
 use std::marker::Model;
@@ -160,6 +161,15 @@ impl OutArea {
         ensures occurrences { occurrences_of self.new ≡ occurrences_of self.old }
     {
         write_part(&mut self.bytes, field.start(), value);
+    }
+
+    /// Writes STATUS KEY, and leaves all other characters as they were.
+    pub fn set_status(&mut self, status: Status)
+        ensures area { self.new ≡ with_output_status status self.old }
+        ensures valid { IsOutputArea self.new }
+        ensures occurrences { occurrences_of self.new ≡ occurrences_of self.old }
+    {
+        self.set(OutField::Status, &status.bytes());
     }
 
     /// Returns the number of DESTINATION COUNT: None exactly if it is not four digits, or its

@@ -8,6 +8,7 @@ use Rattle.com_msg.specs.Limits.{IsWithinLimits}
 use Rattle.com_msg.specs.Rendering.{IsAdvance}
 use Rattle.com_msg.specs.declared.rest.TheConstants.{MAX_SIZE}
 use Rattle.com_msg.specs.declared.sending.TheConstants.{MAX_ITEM_LENGTH}
+use Rattle.com_cd.specs.Designation.{names_length}
 use Rattle.com_cd.specs.InputArea.{IsInputArea}
 use Rattle.com_cd.specs.OutputArea.{IsOutputArea}
 use Rattle.com_msg.specs.declared.message.RawMessage.{RawMessage}
@@ -84,9 +85,9 @@ abbrev pub IsCallOf : Party → Call → Type 0
 IsCallOf (party.Unit name) call = IsName name × IsUnitCall call
 IsCallOf (party.Terminal name) call = IsName name × (IsUnitCall call → ⊥)
 
--- the four names that START hands over, 48 characters of a text
+-- the four names that START hands over, a text
 abbrev pub AreNames : List ℕ → Type 0
-AreNames names = IsText names × (length names ≡ 48)
+AreNames names = IsText names × (length names ≡ names_length)
 
 -- the reply is one that such a call may be answered
 abbrev pub IsReplyTo : Call → Reply → Type 0

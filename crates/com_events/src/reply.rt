@@ -1,12 +1,12 @@
 //! What a call is answered.
-use com_cd::{InArea, OutArea};
+use com_cd::{InArea, NAMES_LENGTH, OutArea};
 use com_text::Text;
 
 /// What a call is answered.
 #[derive(Debug, Drop)]
 pub enum Reply {
     /// The unit runs. A scheduled unit is handed the four names of the queue, 48 characters.
-    Started { names: Option<[u8; 48]> },
+    Started { names: Option<[u8; NAMES_LENGTH]> },
     /// A portion's text, and its area.
     Given { area: InArea, text: Text },
     /// Nothing waits; the area says so.

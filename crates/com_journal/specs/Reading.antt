@@ -3,6 +3,8 @@ use Rattle.std.specs.Prelude.{ℕ, zero, suc, not, ◌+◌, ◌-◌, ◌*◌, �
 use Rattle.std.specs.List.{after_first, concat, position_or_len, starts_with}
 use Rattle.std.specs.Str.{bytes_eq}
 use Rattle.com_text.specs.Text.{is_text}
+use Rattle.com_cd.specs.Designation.{names_length}
+use Rattle.com_cd.specs.declared.input_area.TheConstants.{IN_AREA_LENGTH}
 use Rattle.com_text.specs.Name.{is_name}
 use Rattle.com_text.specs.Digits.{number}
 use Rattle.com_text.specs.Counted.{counted_field, is_colon}
@@ -97,7 +99,7 @@ text_at least most bytes = do
 
 -- a counted field with an input area
 abbrev pub is_input_area : List ℕ → Bool
-is_input_area content = (length content == 87) && is_text content
+is_input_area content = (length content == IN_AREA_LENGTH) && is_text content
 
 unfoldable pub in_area_at : List ℕ → Option (List ℕ × List ℕ)
 in_area_at bytes = do
@@ -313,7 +315,7 @@ call_at line = do
 unfoldable pub names_of : List ℕ → Option (Option (List ℕ))
 names_of content =
     if length content == 0 then Some None
-    else if (length content == 48) && is_text content then Some (Some content) else None
+    else if (length content == names_length) && is_text content then Some (Some content) else None
 
 unfoldable pub names_at : List ℕ → Option (Option (List ℕ) × List ℕ)
 names_at bytes = do

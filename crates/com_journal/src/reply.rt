@@ -8,12 +8,10 @@ ghost use Rattle.com_journal.specs.Reading.{names_of, names_at, started_at, inpu
 use crate::line::{Line, Unread};
 use crate::put::{put_decimal, put_field, put_word};
 use crate::{arrive, receive};
+use com_cd::NAMES_LENGTH;
 use com_events::{Call, Reply};
 use com_text::{Rows, is_text};
 use std::alloc::{AllocError, Global};
-
-/// How many characters the names have that START hands over.
-const NAMES_LENGTH: usize = 48;
 
 /// Takes the reply to a call.
 #[tactic(auto, unfolding(crate::specs::Reading::reply_at))]

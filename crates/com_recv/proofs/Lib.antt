@@ -1,7 +1,6 @@
 mod Awaited
 mod Choosing
 mod Designating
-mod Fields
 pub mod Handing
 pub mod Places
 mod Receiving

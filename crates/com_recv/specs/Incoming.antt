@@ -4,7 +4,7 @@ use Rattle.std.specs.Prelude.{ℕ, ◌-◌, ◌<◌, ◌≤◌, Bool, not, ◌&&
 use Rattle.std.specs.List.{filter, find, position, range_with_len, list_any, All, AllPairs}
 use Rattle.std.specs.Str.{bytes_eq}
 use Rattle.com_msg.specs.declared.message.Message.{Message}
-use Rattle.com_cd.specs.Designation.{path_fields}
+use Rattle.com_cd.specs.Designation.{names_length, path_fields}
 use Rattle.com_tree.specs.declared.tree.TreeRow.{TreeRow}
 use Rattle.com_tree.specs.declared.tree.Node.{Node}
 use Rattle.com_tree.specs.Written.{IsWritten, leaf_count}
@@ -26,7 +26,7 @@ nothing = record { waiting = []; held = [] }
 abbrev pub designated : List TreeRow → List ℕ → Option Node
 designated tree area =
     option_map (λ place. record { row = place })
-    (position (λ path. bytes_eq (take 48 area) (path_fields path)) (paths tree))
+    (position (λ path. bytes_eq (take names_length area) (path_fields path)) (paths tree))
 
 -- the leaf stands under the node, or is it
 abbrev pub is_under : List TreeRow → Node → ℕ → Bool

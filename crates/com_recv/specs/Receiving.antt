@@ -12,7 +12,8 @@ use Rattle.com_recv.specs.declared.lists.Held.{Held}
 use Rattle.com_recv.specs.declared.queues.Taken.{Taken}
 use Rattle.com_recv.specs.declared.queues.Taken.TheVariants.{Given, NoData, Unknown}
 use Rattle.com_recv.specs.Incoming.{Incoming, designated, first_on, chosen_leaf, without_first, held_under, holding, waiting_under}
-use Rattle.com_recv.specs.Areas.{with_status, given_area, no_data_area, counted_area}
+use Rattle.com_recv.specs.Areas.{given_area, no_data_area, counted_area}
+use Rattle.com_cd.specs.Status.{with_input_status}
 
 -- what a RECEIVE goes on with, and what waits then
 pub record Next : Type 0 where
@@ -66,7 +67,7 @@ receive_next tree incoming unit area kind size (Some next) =
 
 -- no node: the status key alone changes
 abbrev pub receive_at : List TreeRow → Incoming → ℕ → List ℕ → Kind → ℕ → Option Node → Received
-receive_at tree incoming unit area kind size None = (Unknown, with_status S20 area, incoming)
+receive_at tree incoming unit area kind size None = (Unknown, with_input_status S20 area, incoming)
 receive_at tree incoming unit area kind size (Some node) =
     receive_next tree incoming unit area kind size (next_rest tree incoming unit node)
 
@@ -77,7 +78,7 @@ receive tree incoming unit area kind size =
 
 -- no node: the status key alone changes
 abbrev pub count_at : List TreeRow → Incoming → List ℕ → Option Node → List ℕ
-count_at tree incoming area None = with_status S20 area
+count_at tree incoming area None = with_input_status S20 area
 count_at tree incoming area (Some node) =
     counted_area (waiting_under tree incoming.waiting node) area
 

@@ -1,27 +1,25 @@
 //! What RECEIVE and ACCEPT MESSAGE COUNT write into an area.
-ghost use Rattle.std.specs.Prelude.{◌≡◌, ◌≤◌, ◌++◌, length, drop};
+ghost use Rattle.std.specs.Prelude.{◌≡◌, ◌≤◌, length};
 ghost use Rattle.com_text.specs.Text.{IsText};
 ghost use Rattle.com_msg.specs.Portion.{IsEndKey};
-ghost use Rattle.com_cd.specs.Designation.{path_fields};
 ghost use Rattle.com_cd.specs.declared.status.Status.TheVariants.{S20};
-ghost use Rattle.com_recv.specs.Areas.{with_status, with_origin, with_portion, no_data_area, counted_area, portion_area, level_field};
+ghost use Rattle.com_recv.specs.Areas.{with_origin, with_portion, no_data_area, counted_area, portion_area};
+ghost use Rattle.com_cd.specs.Status.{with_input_status};
 
 use com_cd::{InArea, InField, Status};
 use com_msg::{MAX_SIZE, Portion, Rest};
-use com_text::{FIELD_LENGTH, Name, NamePath, digits_of};
-
-const SPACES: [u8; FIELD_LENGTH] = [b' '; FIELD_LENGTH];
+use com_text::{NamePath, digits_of};
 
 /// The largest number that MESSAGE COUNT tells.
 pub const MAX_COUNT: usize = 999_999;
 
 /// The area that tells of a portion of a message that came from the leaf with this path.
-pub fn portion_area(path: &NamePath, rest: &Rest, portion: &Portion, area: InArea) -> InArea
+pub fn portion_area(path: &NamePath, rest: &Rest, portion: &Portion, mut area: InArea) -> InArea
     requires short { length portion.now.text ≤ MAX_SIZE }
     requires end_key { IsEndKey portion.now.end_key }
     ensures { result ≡ portion_area path.now rest.now portion.now area }
 {
-    let area = with_names(path, area);
+    area.set_path(path);
     let area = with_origin(rest, area);
     let length = digits_of::<4>(portion.text.as_bytes().len() as u64);
     with_portion(&length, &[portion.end_key], area)
@@ -36,9 +34,9 @@ pub fn no_data_area(area: InArea) -> InArea
 
 /// The area where no node is designated.
 pub fn refused_area(mut area: InArea) -> InArea
-    ensures { result ≡ with_status S20 area }
+    ensures { result ≡ with_input_status S20 area }
 {
-    area.set(InField::Status, &Status::S20.bytes());
+    area.set_status(Status::S20);
     area
 }
 
@@ -48,32 +46,8 @@ pub fn counted_area(count: usize, mut area: InArea) -> InArea
 {
     let number = digits_of::<6>(count.min(MAX_COUNT) as u64);
     area.set(InField::Count, &number);
-    area.set(InField::Status, &Status::S00.bytes());
+    area.set_status(Status::S00);
     area
-}
-
-/// The area with the names of a path, and spaces in the levels below them.
-fn with_names(path: &NamePath, mut area: InArea) -> InArea
-    ensures { result ≡ path_fields path.now ++ drop 48 area }
-{
-    let names = path.names();
-    area.set(InField::Queue, &field_at(names, 0));
-    area.set(InField::Sub1, &field_at(names, 1));
-    area.set(InField::Sub2, &field_at(names, 2));
-    area.set(InField::Sub3, &field_at(names, 3));
-    area
-}
-
-/// The field of the name at a place of a path, and spaces past its end.
-fn field_at(names: &[Name], at: usize) -> [u8; FIELD_LENGTH]
-    ensures field { result ≡ level_field names.now at }
-    ensures width { length result ≡ 12 }
-    ensures text { IsText result }
-{
-    match names.get(at) {
-        Some(name) => name.field(),
-        None => SPACES,
-    }
 }
 
 /// The area with the date, the time and the source of a message.
@@ -95,6 +69,6 @@ fn with_portion(length: &[u8; 4], end_key: &[u8; 1], mut area: InArea) -> InArea
 {
     area.set(InField::Length, length);
     area.set(InField::EndKey, end_key);
-    area.set(InField::Status, &Status::S00.bytes());
+    area.set_status(Status::S00);
     area
 }

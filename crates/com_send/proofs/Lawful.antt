@@ -12,12 +12,13 @@ use Rattle.com_msg.specs.declared.sending.Part.TheVariants.{Portion, Esi, Emi, E
 use Rattle.com_cd.specs.declared.status.Status.TheVariants.{S40, S60}
 use Rattle.com_send.specs.declared.destination.Destination.{Destination}
 use Rattle.com_send.specs.Outgoing.{DestinationState, Outgoing, begun_for, opening, opening_state, with_begun}
-use Rattle.com_send.specs.Found.{Found, find_destinations, is_among, at_each, with_status, with_keys}
+use Rattle.com_send.specs.Found.{Found, find_destinations, is_among, at_each, with_keys}
 use Rattle.com_send.specs.Sending.{Answer, deliver, serve, serve_part, serve_begun, sent_text, is_nothing, send, send_found, send_to}
 use Rattle.com_send.specs.Switching.{switch, switch_output, switch_found, switch_status, is_key_of_each}
 use Rattle.com_send.specs.Laws.{is_found, Verb, sends, switches, stops, after, after_all, finished_of, finished_with, finished_for, finished_by, finished_by_all, IsInOrder}
 use Rattle.com_send.proofs.Changing.{changed, changed_at}
 use Rattle.com_send.proofs.Keeping.{deliver_begun}
+use Rattle.com_cd.specs.Status.{with_output_status}
 
 -- what stands at a place after each destination that is named was changed
 changed_get : (found : Found) (change : DestinationState → DestinationState) (first m : ℕ) (states : Outgoing) (at : ℕ) → m ≡ first + at
@@ -48,7 +49,7 @@ send_other outgoing unit area part None t at among = refl
 send_other outgoing unit area part (Some found) None at among = refl
 send_other outgoing unit area part (Some found) (Some text) at among = at_test (is_nothing part text)
   where
-    at_test : (b : Bool) → slice_get (if b then (with_status S60 area, outgoing) else send_to outgoing unit area part text found).1 at ≡ slice_get outgoing at
+    at_test : (b : Bool) → slice_get (if b then (with_output_status S60 area, outgoing) else send_to outgoing unit area part text found).1 at ≡ slice_get outgoing at
     at_test true = refl
     at_test false = each_other found (serve unit part text) outgoing at among
 
@@ -63,7 +64,7 @@ switch_other : (destinations : List Destination) (outgoing : Outgoing) (on : Boo
 switch_other destinations outgoing on area key None at among = refl
 switch_other destinations outgoing on area key (Some found) at among = at_test (is_key_of_each found key destinations)
   where
-    at_test : (b : Bool) → slice_get (if◌then◌else◌ {A = Answer} b (with_keys found (switch_status found) area, at_each found (switch on) outgoing) (with_status S40 area, outgoing)).1 at ≡ slice_get outgoing at
+    at_test : (b : Bool) → slice_get (if◌then◌else◌ {A = Answer} b (with_keys found (switch_status found) area, at_each found (switch on) outgoing) (with_output_status S40 area, outgoing)).1 at ≡ slice_get outgoing at
     at_test true = each_other found (switch on) outgoing at among
     at_test false = refl
 
@@ -125,7 +126,7 @@ send_leaves_begun outgoing unit other area part None t at apart = refl
 send_leaves_begun outgoing unit other area part (Some found) None at apart = refl
 send_leaves_begun outgoing unit other area part (Some found) (Some text) at apart = at_test (is_nothing part text)
   where
-    at_test : (b : Bool) → begun_for (if b then (with_status S60 area, outgoing) else send_to outgoing unit area part text found).1 other at ≡ begun_for outgoing other at
+    at_test : (b : Bool) → begun_for (if b then (with_output_status S60 area, outgoing) else send_to outgoing unit area part text found).1 other at ≡ begun_for outgoing other at
     at_test true = refl
     at_test false = each_leaves found (serve unit part text) outgoing other at (serve_leaves unit other part text apart)
 
@@ -233,7 +234,7 @@ send_steps outgoing unit area part (Some found) (Some text) at state is none = a
     messages = if is_among found at then finished_with part text (begun_for outgoing unit at) else []
 
     at_test : (b : Bool) → is_nothing part text ≡ b
-        → Steps (if is_among found at then finished_with part text (begun_for outgoing unit at) else []) state (if b then (with_status S60 area, outgoing) else send_to outgoing unit area part text found).1 at
+        → Steps (if is_among found at then finished_with part text (begun_for outgoing unit at) else []) state (if b then (with_output_status S60 area, outgoing) else send_to outgoing unit area part text found).1 at
     at_test true nothing =
         subst (λ (m : List OutMessage). Steps m state outgoing at)
         (sym (nothing_chosen (is_among found at) (finished_with part text (begun_for outgoing unit at)) (nothing_finished part text (begun_for outgoing unit at) nothing)))
@@ -257,7 +258,7 @@ switch_steps : (destinations : List Destination) (outgoing : Outgoing) (on : Boo
 switch_steps destinations outgoing on area key None at state is none = stays outgoing at state is none
 switch_steps destinations outgoing on area key (Some found) at state is none = at_test (is_key_of_each found key destinations)
   where
-    at_test : (b : Bool) → Steps [] state (if◌then◌else◌ {A = Answer} b (with_keys found (switch_status found) area, at_each found (switch on) outgoing) (with_status S40 area, outgoing)).1 at
+    at_test : (b : Bool) → Steps [] state (if◌then◌else◌ {A = Answer} b (with_keys found (switch_status found) area, at_each found (switch on) outgoing) (with_output_status S40 area, outgoing)).1 at
     at_test true = switched_steps outgoing on found at state is none
     at_test false = stays outgoing at state is none
 

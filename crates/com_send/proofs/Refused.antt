@@ -7,62 +7,17 @@ use Rattle.std.proofs.lemmas.Bool.{false≢true}
 use Rattle.std.proofs.lemmas.List.{take_at, drop_at, length-take, length-take-le}
 use Rattle.com_msg.specs.declared.sending.Part.{Part}
 use Rattle.com_cd.specs.OutputArea.{IsOutputArea, out_field}
-use Rattle.com_cd.specs.Status.{status_bytes}
+use Rattle.com_cd.specs.Status.{status_bytes, with_output_status}
 use Rattle.com_cd.specs.declared.status.Status.{Status}
 use Rattle.com_cd.specs.declared.status.Status.TheVariants.{S00, S10, S20, S30, S40, S50, S60}
 use Rattle.com_cd.specs.declared.output_area.OutField.TheVariants as field
 use Rattle.com_send.specs.declared.destination.Destination.{Destination}
 use Rattle.com_send.specs.Outgoing.{Outgoing}
-use Rattle.com_send.specs.Found.{Found, find_destinations, has_unknown, at_each, error_key, keyed, with_error_keys, with_status, with_keys}
+use Rattle.com_send.specs.Found.{Found, find_destinations, has_unknown, at_each, error_key, keyed, with_error_keys, with_keys}
 use Rattle.com_send.specs.Sending.{Answer, serve, has_disabled, send_status, sent_text, is_nothing, send, send_found, send_to}
 use Rattle.com_send.specs.Switching.{switch, switch_output, switch_found, switch_status, is_key_of_each}
 use Rattle.com_send.specs.Laws.{is_send_refusal, is_switch_refusal}
-
--- what is written at a place is read there
-read_back : (area key : List ℕ) (at width : ℕ) → at ≤ length area → length key ≡ width
-    → slice_range (take at area ++ key ++ drop (at + width) area) at (at + width) ≡ key
-read_back area key at width within e =
-    let behind = drop (at + width) area in
-    let dropped : drop at (take at area ++ key ++ behind) ≡ key ++ behind =
-    ap (drop at) (append_assoc (take at area) key behind) ∙ drop_at (take at area) (key ++ behind) at (length-take-le at area within) in
-    let same : (at + width) - at ≡ width = omega arith in
-    rw (dropped, same) (take_at key behind width e)
-
--- a status key by its two characters
-abbrev status_of : List ℕ → Status
-status_of key =
-    if bytes_eq key (codes "00") then S00
-    else if bytes_eq key (codes "10") then S10
-    else if bytes_eq key (codes "20") then S20
-    else if bytes_eq key (codes "30") then S30
-    else if bytes_eq key (codes "40") then S40
-    else if bytes_eq key (codes "50") then S50
-    else S60
-
-status_of_bytes : (status : Status) → status_of (status_bytes status) ≡ status
-status_of_bytes S00 = refl
-status_of_bytes S10 = refl
-status_of_bytes S20 = refl
-status_of_bytes S30 = refl
-status_of_bytes S40 = refl
-status_of_bytes S50 = refl
-status_of_bytes S60 = refl
-
-two_bytes : (status : Status) → length (status_bytes status) ≡ 2
-two_bytes S00 = refl
-two_bytes S10 = refl
-two_bytes S20 = refl
-two_bytes S30 = refl
-two_bytes S40 = refl
-two_bytes S50 = refl
-two_bytes S60 = refl
-
--- an area tells the key that was written in it
-told : (area : List ℕ) (own status : Status) → 8 ≤ length area → out_field field.Status (with_status own area) ≡ status_bytes status → own ≡ status
-told area own status within e =
-    sym (status_of_bytes own)
-    ∙ (ap status_of (sym (read_back area (status_bytes own) 8 2 within (two_bytes own)) ∙ e)
-    ∙ status_of_bytes status)
+use Rattle.com_cd.proofs.StatusKeys.{output_status}
 
 -- error keys leave the beginning of an area
 long_key : (area : List ℕ) (at : ℕ) (destination : Option ℕ) → 8 ≤ length area → 8 ≤ length (keyed area (at, destination))
@@ -79,17 +34,17 @@ long_keys first (destination ∷ found) area h = long_keys (first + 1) found (ke
 -- where a call tells a refusal, it changes the status key alone
 abbrev Alone : (Status → Bool) → List ℕ → Outgoing → Status → Answer → Type 0
 Alone is_refusal area outgoing status answer =
-    IsTrue (is_refusal status) → out_field field.Status answer.0 ≡ status_bytes status → answer ≡ (with_status status area, outgoing)
+    IsTrue (is_refusal status) → out_field field.Status answer.0 ≡ status_bytes status → answer ≡ (with_output_status status area, outgoing)
 
 refused : (is_refusal : Status → Bool) (area : List ℕ) (outgoing : Outgoing) (own status : Status) → 8 ≤ length area
-    → Alone is_refusal area outgoing status (with_status own area, outgoing)
+    → Alone is_refusal area outgoing status (with_output_status own area, outgoing)
 refused is_refusal area outgoing own status within refusal tells =
-    ap (λ (s : Status). (with_status s area, outgoing)) (told area own status within tells)
+    ap (λ (s : Status). (with_output_status s area, outgoing)) (output_status area own status within tells)
 
 served : (is_refusal : Status → Bool) (area written : List ℕ) (outgoing next : Outgoing) (own status : Status) → is_refusal own ≡ false → 8 ≤ length written
-    → Alone is_refusal area outgoing status (with_status own written, next)
+    → Alone is_refusal area outgoing status (with_output_status own written, next)
 served is_refusal area written outgoing next own status none within refusal tells =
-    absurd (false≢true (sym none ∙ (ap is_refusal (told written own status within tells) ∙ refusal)))
+    absurd (false≢true (sym none ∙ (ap is_refusal (output_status written own status within tells) ∙ refusal)))
 
 no_send_refusal : (found : Found) (outgoing : Outgoing) → is_send_refusal (send_status found outgoing) ≡ false
 no_send_refusal found outgoing = at_tests (has_unknown found) (has_disabled found outgoing)
@@ -112,7 +67,7 @@ send_alone outgoing unit area part None t status within = refused is_send_refusa
 send_alone outgoing unit area part (Some found) None status within = refused is_send_refusal area outgoing S50 status within
 send_alone outgoing unit area part (Some found) (Some text) status within = at_test (is_nothing part text)
   where
-    at_test : (b : Bool) → Alone is_send_refusal area outgoing status (if b then (with_status S60 area, outgoing) else send_to outgoing unit area part text found)
+    at_test : (b : Bool) → Alone is_send_refusal area outgoing status (if b then (with_output_status S60 area, outgoing) else send_to outgoing unit area part text found)
     at_test true = refused is_send_refusal area outgoing S60 status within
     at_test false = served is_send_refusal area (with_error_keys found area) outgoing (at_each found (serve unit part text) outgoing) (send_status found outgoing) status (no_send_refusal found outgoing) (long_keys 0 found area within)
 
@@ -121,7 +76,7 @@ switch_alone : (destinations : List Destination) (outgoing : Outgoing) (on : Boo
 switch_alone destinations outgoing on area key None status within = refused is_switch_refusal area outgoing S30 status within
 switch_alone destinations outgoing on area key (Some found) status within = at_test (is_key_of_each found key destinations)
   where
-    at_test : (b : Bool) → Alone is_switch_refusal area outgoing status (if b then (with_keys found (switch_status found) area, at_each found (switch on) outgoing) else (with_status S40 area, outgoing))
+    at_test : (b : Bool) → Alone is_switch_refusal area outgoing status (if b then (with_keys found (switch_status found) area, at_each found (switch on) outgoing) else (with_output_status S40 area, outgoing))
     at_test true = served is_switch_refusal area (with_error_keys found area) outgoing (at_each found (switch on) outgoing) (switch_status found) status (no_switch_refusal found) (long_keys 0 found area within)
     at_test false = refused is_switch_refusal area outgoing S40 status within
 
@@ -131,12 +86,12 @@ front area is = let whole = is.whole in omega arith
 
 pub refused_send : (destinations : List Destination) (outgoing : Outgoing) (unit : ℕ) (area : List ℕ) (part : Part) (item : Option (List ℕ)) (status : Status) → IsOutputArea area
     → IsTrue (is_send_refusal status) → out_field field.Status (send destinations outgoing unit area part item).0 ≡ status_bytes status
-    → send destinations outgoing unit area part item ≡ (with_status status area, outgoing)
+    → send destinations outgoing unit area part item ≡ (with_output_status status area, outgoing)
 refused_send destinations outgoing unit area part item status is =
     send_alone outgoing unit area part (find_destinations destinations area) (sent_text area item) status (front area is)
 
 pub refused_switch : (destinations : List Destination) (outgoing : Outgoing) (on : Bool) (area key : List ℕ) (status : Status) → IsOutputArea area
     → IsTrue (is_switch_refusal status) → out_field field.Status (switch_output destinations outgoing on area key).0 ≡ status_bytes status
-    → switch_output destinations outgoing on area key ≡ (with_status status area, outgoing)
+    → switch_output destinations outgoing on area key ≡ (with_output_status status area, outgoing)
 refused_switch destinations outgoing on area key status is =
     switch_alone destinations outgoing on area key (find_destinations destinations area) status (front area is)

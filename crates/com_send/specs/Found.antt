@@ -4,7 +4,7 @@ use Rattle.std.specs.List.{position, range_with_len, list_any, fold, enumerate_f
 use Rattle.std.specs.Str.{bytes_eq}
 use Rattle.com_text.specs.Name.{field_of}
 use Rattle.com_cd.specs.OutputArea.{out_field, set_out, destination_count}
-use Rattle.com_cd.specs.Status.{status_bytes}
+use Rattle.com_cd.specs.Status.{with_output_status}
 use Rattle.com_cd.specs.declared.status.Status.{Status}
 use Rattle.com_cd.specs.declared.output_area.OutField.TheVariants as field
 use Rattle.com_send.specs.declared.destination.Destination.{Destination}
@@ -69,10 +69,6 @@ keyed area (at, destination) = set_out (field.Error at) area (error_key destinat
 abbrev pub with_error_keys : Found → List ℕ → List ℕ
 with_error_keys found area = fold keyed area (enumerate_from 0 found)
 
--- the area with this status key
-abbrev pub with_status : Status → List ℕ → List ℕ
-with_status status area = set_out field.Status area (status_bytes status)
-
 -- the area with its error keys and this status key
 abbrev pub with_keys : Found → Status → List ℕ → List ℕ
-with_keys found status area = with_status status (with_error_keys found area)
+with_keys found status area = with_output_status status (with_error_keys found area)

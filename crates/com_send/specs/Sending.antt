@@ -15,7 +15,8 @@ use Rattle.com_cd.specs.declared.status.Status.TheVariants.{S00, S10, S20, S30, 
 use Rattle.com_cd.specs.declared.output_area.OutField.TheVariants as field
 use Rattle.com_send.specs.declared.destination.Destination.{Destination}
 use Rattle.com_send.specs.Outgoing.{DestinationState, Outgoing, with_begun}
-use Rattle.com_send.specs.Found.{Found, find_destinations, is_among, has_unknown, at_each, with_status, with_keys}
+use Rattle.com_send.specs.Found.{Found, find_destinations, is_among, has_unknown, at_each, with_keys}
+use Rattle.com_cd.specs.Status.{with_output_status}
 
 -- a finished message is transmitted where the destination is enabled, and otherwise queued
 abbrev pub deliver : OutMessage → DestinationState → DestinationState
@@ -90,10 +91,10 @@ send_to outgoing unit area part text found = (
 
 -- 30, 50 and 60 are tried in this order, and then the status key alone changes
 abbrev pub send_found : Outgoing → ℕ → List ℕ → Part → Option Found → Option (List ℕ) → Answer
-send_found outgoing unit area part None text = (with_status S30 area, outgoing)
-send_found outgoing unit area part (Some found) None = (with_status S50 area, outgoing)
+send_found outgoing unit area part None text = (with_output_status S30 area, outgoing)
+send_found outgoing unit area part (Some found) None = (with_output_status S50 area, outgoing)
 send_found outgoing unit area part (Some found) (Some text) =
-    if is_nothing part text then (with_status S60 area, outgoing)
+    if is_nothing part text then (with_output_status S60 area, outgoing)
     else send_to outgoing unit area part text found
 
 -- SEND

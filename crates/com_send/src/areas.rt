@@ -6,8 +6,9 @@ ghost use Rattle.arrayvec.specs.ArrayVec.{array_vec_len};
 ghost use Rattle.com_text.specs.Text.{IsText};
 ghost use Rattle.com_cd.specs.OutputArea.{occurrences_of, out_field};
 ghost use Rattle.com_cd.specs.declared.output_area.OutField.TheVariants as out;
-ghost use Rattle.com_send.specs.Found.{destination_with, find_destinations, error_key, is_among, names, has_unknown, with_status, with_keys};
+ghost use Rattle.com_send.specs.Found.{destination_with, find_destinations, error_key, is_among, names, has_unknown, with_keys};
 ghost use Rattle.com_send.specs.Sending.{sent_text};
+ghost use Rattle.com_cd.specs.Status.{with_output_status};
 
 use crate::Destination;
 use arrayvec::ArrayVec;
@@ -35,7 +36,7 @@ pub fn find_destinations(destinations: &[Destination], area: &OutArea) -> Option
     let mut found = Found::new();
     for at in 0..count {
         let name = name_field(area, at);
-        found.push(destination_with(destinations, name));
+        found.push(find_destination(destinations, name));
     }
     Some(found)
 }
@@ -48,9 +49,10 @@ fn name_field(area: &OutArea, at: u32) -> &[u8; FIELD_LENGTH]
     area.get(OutField::Destination(at)).try_into().unwrap()
 }
 
-/// Returns the number of the destination whose name a field holds.
-fn destination_with(destinations: &[Destination], field: &[u8; FIELD_LENGTH]) -> Option<usize>
-    ensures { result ≡ destination_with destinations.now field.now }
+/// Returns the number of the destination whose name a field holds: None exactly if none has it.
+pub fn find_destination(destinations: &[Destination], field: &[u8; FIELD_LENGTH]) -> Option<usize>
+    ensures place { result ≡ destination_with destinations.now field.now }
+    ensures within { IfSome result (λ place. place < length destinations.now) }
 {
     destinations
         .iter()
@@ -168,9 +170,9 @@ pub fn has_unknown(found: &[Option<usize>]) -> bool
 
 /// Writes the status key.
 pub fn write_status(area: &mut OutArea, status: Status)
-    ensures area { area.new ≡ with_status status area.old }
+    ensures area { area.new ≡ with_output_status status area.old }
 {
-    area.set(OutField::Status, &status.bytes());
+    area.set_status(status);
 }
 
 /// ERROR KEY: 1 where the destination is unknown.

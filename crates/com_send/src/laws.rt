@@ -2,12 +2,11 @@
 ghost use Rattle.std.specs.Prelude.{◌≡◌, ◌≢◌, ◌<◌, ℕ, Bool, false, List, Option, Some, IsTrue, length, slice_get};
 ghost use Rattle.com_msg.specs.declared.sending.Part.{Part as PartOf};
 ghost use Rattle.com_cd.specs.OutputArea.{IsOutputArea, out_field};
-ghost use Rattle.com_cd.specs.Status.{status_bytes};
+ghost use Rattle.com_cd.specs.Status.{status_bytes, with_output_status};
 ghost use Rattle.com_cd.specs.declared.status.Status.{Status as StatusOf};
 ghost use Rattle.com_cd.specs.declared.output_area.OutField.TheVariants as field;
 ghost use Rattle.com_send.specs.declared.destination.Destination.{Destination};
 ghost use Rattle.com_send.specs.Outgoing.{DestinationState, Outgoing, begun_for, opening};
-ghost use Rattle.com_send.specs.Found.{with_status};
 ghost use Rattle.com_send.specs.Sending.{send};
 ghost use Rattle.com_send.specs.Switching.{switch_output};
 ghost use Rattle.com_send.specs.Laws.{Verb, IsInOrder, after_all, finished_by_all, is_named, is_send_refusal, is_switch_refusal};
@@ -43,7 +42,7 @@ pub fn a_refused_send_changes_the_status_alone()
         IsTrue (is_send_refusal status) →
         out_field field.Status (send destinations outgoing unit area part item).0
         ≡ status_bytes status →
-        send destinations outgoing unit area part item ≡ (with_status status area, outgoing) }
+        send destinations outgoing unit area part item ≡ (with_output_status status area, outgoing) }
 {}
 
 /// With 30 and 40 ENABLE and DISABLE OUTPUT change the status key, and nothing else.
@@ -53,7 +52,7 @@ pub fn a_refused_switch_changes_the_status_alone()
         IsTrue (is_switch_refusal status) →
         out_field field.Status (switch_output destinations outgoing on area key).0
         ≡ status_bytes status →
-        switch_output destinations outgoing on area key ≡ (with_status status area, outgoing) }
+        switch_output destinations outgoing on area key ≡ (with_output_status status area, outgoing) }
 {}
 
 /// After any calls, what was transmitted to a destination and then what is queued for it are the

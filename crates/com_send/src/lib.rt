@@ -31,6 +31,7 @@ mod output;
 mod outputs;
 mod outs;
 
+pub use areas::find_destination;
 pub use destination::{Destination, is_key};
 pub use laws::{
     a_refused_send_changes_the_status_alone, a_refused_switch_changes_the_status_alone,

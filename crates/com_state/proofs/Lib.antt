@@ -39,5 +39,4 @@ mod Settled
 pub mod Consistency
 mod Holding
 pub mod Doing
-mod NameFields
 mod Flags

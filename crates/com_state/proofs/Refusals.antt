@@ -33,81 +33,32 @@ use Rattle.com_state.specs.Switches.{is_key, switch_leaves, switch_terminal, swi
 use Rattle.com_state.specs.Steps.{is_running, with_verb, may_do_verb, with_reply, receive_running, is_waiting_for, step_receive, verb, unit_step, terminal_step, step}
 use Rattle.com_recv.specs.Incoming.{designated, waiting_under}
 use Rattle.com_recv.specs.Receiving.{Next, count}
-use Rattle.com_recv.specs.Areas.{with_status}
+use Rattle.com_cd.specs.Status.{with_input_status, with_output_status}
+use Rattle.com_cd.proofs.StatusKeys.{input_status, output_status}
 use Rattle.com_state.proofs.Verbs.{receive_in, receive_next_in, next_in, send_in, switch_output_in}
 use Rattle.com_send.specs.Outgoing.{Outgoing}
-use Rattle.com_send.specs.Found.{Found, destination_with, find_destinations, is_unknown, error_key, keyed, with_error_keys, with_status as with_status_out}
+use Rattle.com_send.specs.Found.{Found, destination_with, find_destinations, is_unknown, error_key, keyed, with_error_keys}
 use Rattle.com_send.specs.Sending.{is_nothing, sent_text, send_found, send_status, has_disabled}
 use Rattle.com_send.specs.Switching.{is_key_of_each, switch_found, switch_status}
 use Rattle.com_state.proofs.StepCases.{step_of_unit, step_of_terminal}
 use Rattle.com_recv.specs.declared.areas.TheConstants.{MAX_COUNT}
-
--- what is written at a place is read there
-read_back : (area key : List ℕ) (at width : ℕ) → at ≤ length area → length key ≡ width
-    → slice_range (take at area ++ key ++ drop (at + width) area) at (at + width) ≡ key
-read_back area key at width within e =
-    let behind = drop (at + width) area in
-    let dropped : drop at (take at area ++ key ++ behind) ≡ key ++ behind =
-    ap (drop at) (append_assoc (take at area) key behind) ∙ drop_at (take at area) (key ++ behind) at (length-take-le at area within) in
-    let same : (at + width) - at ≡ width = omega arith in
-    rw (dropped, same) (take_at key behind width e)
-
--- a status key by its two characters
-abbrev status_of : List ℕ → Status
-status_of key =
-    if bytes_eq key (codes "00") then S00
-    else if bytes_eq key (codes "10") then S10
-    else if bytes_eq key (codes "20") then S20
-    else if bytes_eq key (codes "30") then S30
-    else if bytes_eq key (codes "40") then S40
-    else if bytes_eq key (codes "50") then S50
-    else S60
-
-status_of_bytes : (status : Status) → status_of (status_bytes status) ≡ status
-status_of_bytes S00 = refl
-status_of_bytes S10 = refl
-status_of_bytes S20 = refl
-status_of_bytes S30 = refl
-status_of_bytes S40 = refl
-status_of_bytes S50 = refl
-status_of_bytes S60 = refl
-
-two_bytes : (status : Status) → length (status_bytes status) ≡ 2
-two_bytes S00 = refl
-two_bytes S10 = refl
-two_bytes S20 = refl
-two_bytes S30 = refl
-two_bytes S40 = refl
-two_bytes S50 = refl
-two_bytes S60 = refl
-
--- different keys are written differently
-same_status : (one other : Status) → status_bytes one ≡ status_bytes other → one ≡ other
-same_status one other e = sym (status_of_bytes one) ∙ (ap status_of e ∙ status_of_bytes other)
-
--- an area tells the key that was written in it
-told_in : (area : List ℕ) (own status : Status) → 79 ≤ length area → in_field field.Status (with_status own area) ≡ status_bytes status → own ≡ status
-told_in area own status within e = same_status own status (sym (read_back area (status_bytes own) 79 2 within (two_bytes own)) ∙ e)
-
-told_out : (area : List ℕ) (own status : Status) → 8 ≤ length area → out_field out.Status (with_status_out own area) ≡ status_bytes status → own ≡ status
-told_out area own status within e = same_status own status (sym (read_back area (status_bytes own) 8 2 within (two_bytes own)) ∙ e)
 
 -- what a verb is answered and leaves, where that is a refusal, before it is counted
 abbrev Alone : State → Call → Status → Reply × State → Type 0
 Alone S call status done = IsTrue (is_refusal call status) → Tells done.0 status → (with_status_alone call status ≡ Some done.0) × (done.1 ≡ S)
 
 -- the call's own area with a refusal's key
-refused_in : (S : State) (call : Call) (area : List ℕ) (own status : Status) → ((s : Status) → with_status_alone call s ≡ Some (AreaIn (with_status s area))) → 79 ≤ length area
-    → Alone S call status (AreaIn (with_status own area), S)
+refused_in : (S : State) (call : Call) (area : List ℕ) (own status : Status) → ((s : Status) → with_status_alone call s ≡ Some (AreaIn (with_input_status s area))) → 79 ≤ length area
+    → Alone S call status (AreaIn (with_input_status own area), S)
 refused_in S call area own status alone within refusal tells =
-    let same = told_in area own status within tells in
-    (alone status ∙ ap (λ s. Some (AreaIn (with_status s area))) (sym same), refl)
+    let same = input_status area own status within tells in
+    (alone status ∙ ap (λ s. Some (AreaIn (with_input_status s area))) (sym same), refl)
 
-refused_out : (S : State) (call : Call) (area : List ℕ) (own status : Status) → ((s : Status) → with_status_alone call s ≡ Some (AreaOut (with_status_out s area))) → 8 ≤ length area
-    → Alone S call status (AreaOut (with_status_out own area), S)
+refused_out : (S : State) (call : Call) (area : List ℕ) (own status : Status) → ((s : Status) → with_status_alone call s ≡ Some (AreaOut (with_output_status s area))) → 8 ≤ length area
+    → Alone S call status (AreaOut (with_output_status own area), S)
 refused_out S call area own status alone within refusal tells =
-    let same = told_out area own status within tells in
-    (alone status ∙ ap (λ s. Some (AreaOut (with_status_out s area))) (sym same), refl)
+    let same = output_status area own status within tells in
+    (alone status ∙ ap (λ s. Some (AreaOut (with_output_status s area))) (sym same), refl)
 
 -- a key that is none of the call's refusals tells no refusal
 other_key : (call : Call) (own status : Status) → is_refusal call own ≡ false → IsTrue (is_refusal call status) → own ≡ status → ⊥
@@ -115,11 +66,11 @@ other_key call own status other refusal same =
     let own_refusal : IsTrue (is_refusal call own) = rw same refusal in
     false≢true (rw other at own_refusal)
 
-done_in : (S next : State) (call : Call) (area : List ℕ) (own status : Status) → is_refusal call own ≡ false → 79 ≤ length area → Alone S call status (AreaIn (with_status own area), next)
-done_in S next call area own status other within refusal tells = absurd (other_key call own status other refusal (told_in area own status within tells))
+done_in : (S next : State) (call : Call) (area : List ℕ) (own status : Status) → is_refusal call own ≡ false → 79 ≤ length area → Alone S call status (AreaIn (with_input_status own area), next)
+done_in S next call area own status other within refusal tells = absurd (other_key call own status other refusal (input_status area own status within tells))
 
-done_out : (S next : State) (call : Call) (area : List ℕ) (own status : Status) → is_refusal call own ≡ false → 8 ≤ length area → Alone S call status (AreaOut (with_status_out own area), next)
-done_out S next call area own status other within refusal tells = absurd (other_key call own status other refusal (told_out area own status within tells))
+done_out : (S next : State) (call : Call) (area : List ℕ) (own status : Status) → is_refusal call own ≡ false → 8 ≤ length area → Alone S call status (AreaOut (with_output_status own area), next)
+done_out S next call area own status other within refusal tells = absurd (other_key call own status other refusal (output_status area own status within tells))
 
 -- error keys leave the beginning of an area
 long_key : (area : List ℕ) (at : ℕ) (destination : Option ℕ) → 8 ≤ length area → 8 ≤ length (keyed area (at, destination))
@@ -223,8 +174,8 @@ alone_receive : (S : State) (unit : ℕ) (area : List ℕ) (kind : Kind) (size :
     → Alone S (made.Receive area kind size no_data) status (receive_in S unit area kind size)
 alone_receive S unit area kind size no_data status within = elim (option_cases (designated S.net.tree area)) [
   | inl none ↦ rw (none, receive_in) (λ refusal tells.
-      let same = told_in area S20 status within tells in
-      (ap (λ s. Some (Refused (with_status s area))) (sym same), refl))
+      let same = input_status area S20 status within tells in
+      (ap (λ s. Some (Refused (with_input_status s area))) (sym same), refl))
   | inr some ↦ rw (some.1, receive_in) (alone_next S unit area kind size no_data (next_in S unit some.0) status)
 ]
 

@@ -7,9 +7,9 @@ use Rattle.com_events.specs.declared.call.StopReason.TheVariants as stop
 use Rattle.com_events.specs.declared.call.EndReason.TheVariants as finish
 use Rattle.com_events.specs.declared.reply.Reply.{Reply}
 use Rattle.com_events.specs.declared.reply.Reply.TheVariants.{Refused, AreaIn, AreaOut}
-use Rattle.com_cd.specs.InputArea.{in_field, set_in}
-use Rattle.com_cd.specs.OutputArea.{out_field, set_out}
-use Rattle.com_cd.specs.Status.{status_bytes}
+use Rattle.com_cd.specs.InputArea.{in_field}
+use Rattle.com_cd.specs.OutputArea.{out_field}
+use Rattle.com_cd.specs.Status.{status_bytes, with_input_status, with_output_status}
 use Rattle.com_cd.specs.declared.status.Status.{Status}
 use Rattle.com_cd.specs.declared.status.Status.TheVariants.{S20, S30, S40, S50, S60}
 use Rattle.com_cd.specs.declared.input_area.InField.TheVariants as field
@@ -70,15 +70,15 @@ Tells _ status = ⊥
 -- the call's own area with this status key in it, and all else as it was
 abbrev pub with_status_alone : Call → Status → Option Reply
 with_status_alone (Receive area kind size no_data) status =
-    Some (Refused (set_in field.Status area (status_bytes status)))
+    Some (Refused (with_input_status status area))
 with_status_alone (Count area) status =
-    Some (AreaIn (set_in field.Status area (status_bytes status)))
+    Some (AreaIn (with_input_status status area))
 with_status_alone (Send area part item) status =
-    Some (AreaOut (set_out out.Status area (status_bytes status)))
+    Some (AreaOut (with_output_status status area))
 with_status_alone (SwitchInput on terminal area key) status =
-    Some (AreaIn (set_in field.Status area (status_bytes status)))
+    Some (AreaIn (with_input_status status area))
 with_status_alone (SwitchOutput on area key) status =
-    Some (AreaOut (set_out out.Status area (status_bytes status)))
+    Some (AreaOut (with_output_status status area))
 with_status_alone _ status = None
 
 -- What a refusal changes: of the area the status key alone, and of the system only the number of

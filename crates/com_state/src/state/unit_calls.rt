@@ -15,7 +15,6 @@ ghost use Rattle.std.specs.Prelude.{
 };
 ghost use Rattle.std.specs.Option.{option_copied};
 ghost use Rattle.com_msg.specs.Rendering.{IsAdvance};
-ghost use Rattle.com_cd.specs.Designation.{path_fields};
 ghost use Rattle.com_events.specs.Calls.{IsWellFormed, IsReplyTo, AreNames};
 ghost use Rattle.com_events.specs.declared.call.Call.TheVariants as made;
 ghost use Rattle.com_recv.specs.Areas.{path_of_leaf};
@@ -26,10 +25,10 @@ ghost use Rattle.com_state.specs.Steps.{unit_step, schedule_of};
 
 use crate::parties::UnitMode;
 use crate::state::State;
-use com_cd::{InArea, OutArea};
+use com_cd::{InArea, NAMES_LENGTH, OutArea, path_fields};
 use com_events::{Call, Reply};
 use com_msg::{Kind, MAX_SIZE, Part};
-use com_text::{FIELD_LENGTH, MAX_NAMES, NamePath, Text};
+use com_text::Text;
 use com_tree::Node;
 use std::alloc::AllocError;
 
@@ -84,7 +83,7 @@ impl State {
 
     /// Returns the names of the leaf that the node of a unit's schedule chooses, where a message
     /// waits there.
-    fn names_at_start(&self, unit: u32) -> Option<[u8; MAX_NAMES * FIELD_LENGTH]>
+    fn names_at_start(&self, unit: u32) -> Option<[u8; NAMES_LENGTH]>
         requires { unit < length self.now.units }
         ensures choice { result ≡ option_and_then (λ node.
             option_map (λ leaf. path_fields (path_of_leaf self.now.net.tree leaf))
@@ -99,14 +98,14 @@ impl State {
     }
 
     /// Returns the names of the leaf that a node chooses, where a message waits under it.
-    fn names_of_choice(&self, node: Node) -> Option<[u8; MAX_NAMES * FIELD_LENGTH]>
+    fn names_of_choice(&self, node: Node) -> Option<[u8; NAMES_LENGTH]>
         requires { node.row < length self.now.net.tree }
         ensures choice { result ≡ option_map (λ leaf. path_fields (path_of_leaf self.now.net.tree leaf))
             (chosen_leaf self.now.net.tree self.now.incoming.waiting node) }
         ensures names { IfSome result AreNames }
     {
         match self.queues.choice(&self.net.tree, node) {
-            Some(leaf) => Some(fields_of(&self.net.tree.path(leaf))),
+            Some(leaf) => Some(path_fields(&self.net.tree.path(leaf))),
             None => None,
         }
     }
@@ -232,17 +231,4 @@ impl State {
         self.queues.drop_unit(unit);
         self.outs.drop_unit(unit);
     }
-}
-
-/// Returns the four name fields of a path.
-fn fields_of(path: &NamePath) -> [u8; MAX_NAMES * FIELD_LENGTH]
-    ensures fields { result ≡ path_fields path.now }
-    ensures names { AreNames result }
-{
-    let mut fields = [b' '; MAX_NAMES * FIELD_LENGTH];
-    for (level, name) in path.names().iter().enumerate() {
-        let first = level * FIELD_LENGTH;
-        fields[first..first + FIELD_LENGTH].copy_from_slice(&name.field());
-    }
-    fields
 }

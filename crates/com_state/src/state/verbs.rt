@@ -25,10 +25,9 @@ ghost use Rattle.com_events.specs.declared.call.Call.TheVariants as made;
 ghost use Rattle.com_events.specs.Calls.{IsReplyTo};
 ghost use Rattle.com_cd.specs.OutputArea.{IsOutputArea};
 ghost use Rattle.com_msg.specs.declared.rest.Kind.{Kind as AKind};
-ghost use Rattle.com_recv.specs.Areas.{with_status};
+ghost use Rattle.com_cd.specs.Status.{with_input_status};
 ghost use Rattle.com_recv.specs.Incoming.{designated};
 ghost use Rattle.com_recv.specs.Receiving.{receive, count};
-ghost use Rattle.com_send.specs.Found.{destination_with};
 ghost use Rattle.com_send.specs.Sending.{send, advance_of};
 ghost use Rattle.com_send.specs.Switching.{switch_output};
 ghost use Rattle.com_state.specs.State.{destinations_of};
@@ -40,7 +39,7 @@ use com_cd::{InArea, InField, OutArea, Status};
 use com_events::Reply;
 use com_msg::{Kind, MAX_SIZE, Part};
 use com_recv::{Taken, designated};
-use com_send::{Destination, is_key};
+use com_send::{find_destination, is_key};
 use com_text::Text;
 use com_tree::Node;
 use std::alloc::AllocError;
@@ -171,7 +170,8 @@ impl State {
         ensures switched { (result, self.new) ≡ switch_input self.old on true area key.now }
         ensures reply { IsReplyTo (made.SwitchInput on true area key.now) result }
     {
-        let Some(terminal) = place_of(self.outs.destinations(), area.get(InField::Source)) else {
+        let source = area.get(InField::Source).try_into().unwrap();
+        let Some(terminal) = find_destination(self.outs.destinations(), source) else {
             return told(area, Status::S20);
         };
         if !is_key(key, &self.net.terminals.as_slice()[terminal].password) {
@@ -194,10 +194,10 @@ impl State {
 
 /// Returns the reply with an area that has a status key.
 fn told(mut area: InArea, status: Status) -> Reply
-    ensures told { result ≡ reply.AreaIn (with_status status area) }
+    ensures told { result ≡ reply.AreaIn (with_input_status status area) }
     ensures area { IsReplyTo (made.Count area) result }
 {
-    area.set(InField::Status, &status.bytes());
+    area.set_status(status);
     Reply::AreaIn { area }
 }
 
@@ -221,16 +221,6 @@ fn receive_told(taken: Taken, area: InArea) -> Reply
         Taken::NoData => Reply::NoData { area },
         Taken::Unknown => Reply::Refused { area },
     }
-}
-
-/// Returns the place of the destination whose name a field holds.
-fn place_of(destinations: &[Destination], field: &[u8]) -> Option<usize>
-    ensures place { result ≡ destination_with destinations.now field.now }
-    ensures within { IfSome result (λ place. place < length destinations.now) }
-{
-    destinations
-        .iter()
-        .position(|destination| destination.name.field().as_slice() == field)
 }
 
 /// Sets the flags from one place to before another.

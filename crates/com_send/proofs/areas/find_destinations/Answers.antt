@@ -12,7 +12,7 @@ push-requires c =
 pub loop-at-preserved : goal.loop-at-preserved
 loop-at-preserved c =
     let more = found_more c.args.destinations.now c.args.area.now c.loop-at.at in
-    let here = c.destination_with.ensures in
+    let here = c.find_destination.ensures.place in
     let name = c.name_field-name.ensures in
     let before = c.loop-at.invariant in
     let after = c.push.ensures.items in

@@ -7,7 +7,7 @@ use Rattle.com_state.proofs.state.State.names_of_choice.Goals as goal
 pub returns-in-Some-clause-choice : goal.returns-in-Some-clause-choice
 returns-in-Some-clause-choice c =
     let entered = ap (λ (i : Inside). system i) c.self-inside.view_is ∙ c.self.view_is in
-    names_chosen entered c.args.node c.in-Some.leaf.number c.path.result c.fields_of.result c.in-Some.ensures.leaf c.path.ensures c.fields_of.ensures.fields
+    names_chosen entered c.args.node c.in-Some.leaf.number c.path.result c.path_fields.result c.in-Some.ensures.leaf c.path.ensures c.path_fields.ensures.fields
 
 pub returns-in-None-clause-choice : goal.returns-in-None-clause-choice
 returns-in-None-clause-choice c =

@@ -1,8 +1,8 @@
 use Rattle.std.proofs.Common.{◌≡◌, ◌<◌, ◌*◌, length, take, drop, get_or, sym, ap, ◌∙◌, arith}
 use Rattle.com_text.specs.Name.{field_of}
 use Rattle.com_text.proofs.Texts.{IsText-append, IsText-take, IsText-drop}
-use Rattle.com_state.proofs.NameFields.{one_field_more, one_width_more, place_width, still_long}
-use Rattle.com_state.proofs.state.unit_calls.fields_of.Goals as goal
+use Rattle.com_cd.proofs.NameFields.{one_field_more, one_width_more, place_width, still_long}
+use Rattle.com_cd.proofs.designation.path_fields.Goals as goal
 
 pub loop-level-preserved : goal.loop-level-preserved
 loop-level-preserved c =
@@ -23,5 +23,5 @@ loop-level-preserved c =
       width = one_width_more path level name wide twelve within read;
     }
 
-pub returns-clause-names : goal.returns-clause-names
-returns-clause-names c = (c.loop-level.invariant.text, c.loop-level.invariant.long)
+pub returns-clause-text : goal.returns-clause-text
+returns-clause-text c = c.loop-level.invariant.text

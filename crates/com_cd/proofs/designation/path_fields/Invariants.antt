@@ -3,7 +3,7 @@ use Rattle.std.specs.List.{flat_map}
 use Rattle.com_text.specs.Name.{field_of}
 use Rattle.com_text.specs.Text.{IsText}
 use Rattle.com_cd.specs.Designation.{path_fields}
-use Rattle.com_state.proofs.state.unit_calls.fields_of.Given as goal
+use Rattle.com_cd.proofs.designation.path_fields.Given as goal
 
 -- the fields of the names before this one, and spaces after them, a text; each is twelve characters
 -- wide
