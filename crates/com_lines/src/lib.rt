@@ -25,6 +25,7 @@
 mod encoding;
 mod framer;
 mod laws;
+pub mod limits;
 mod reading;
 mod rendering;
 

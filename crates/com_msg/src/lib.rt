@@ -26,6 +26,7 @@
 
 mod begun;
 mod framing;
+pub mod limits;
 mod message;
 mod rest;
 mod segments;

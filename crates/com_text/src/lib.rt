@@ -22,6 +22,7 @@
 
 mod counted;
 mod decimal;
+pub mod limits;
 mod name;
 mod name_path;
 mod rows;
