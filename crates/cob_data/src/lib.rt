@@ -39,6 +39,7 @@ mod grammar;
 mod items;
 mod laws;
 mod levels;
+pub mod limits;
 mod names;
 mod open_levels;
 mod opening;

@@ -22,6 +22,7 @@ mod fault;
 mod front;
 mod laws;
 mod lexer;
+pub mod limits;
 mod lines;
 mod literal;
 mod token;

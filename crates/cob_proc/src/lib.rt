@@ -27,6 +27,7 @@ mod conditions;
 mod faults;
 mod ifs;
 mod laws;
+pub mod limit_numbers;
 mod limits;
 mod paragraphs;
 mod parts;

@@ -22,6 +22,7 @@
 
 mod designation;
 mod input_area;
+pub mod limits;
 mod output_area;
 mod parts;
 mod status;

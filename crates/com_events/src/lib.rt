@@ -17,6 +17,7 @@
 
 mod call;
 mod entry;
+pub mod limits;
 mod reply;
 
 pub use call::{Call, EndReason, MAX_KEY_LENGTH, Party, StopReason};

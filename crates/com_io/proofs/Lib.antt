@@ -1,3 +1,4 @@
+mod Counting
 mod NamedLemmas
 mod ReadLemmas
 mod WriteLemmas

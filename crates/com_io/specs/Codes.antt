@@ -1,48 +1,49 @@
 -- By which a proof tells the values of a store in memory apart.
-use Rattle.std.specs.Prelude.{ℕ, Bool, List, refl}
-use Rattle.std.specs.Coded.{Coded, code_by, coded×, coded_ℕ, coded_bool, coded_list}
+use Rattle.std.specs.Prelude.{ℕ, ◌⊎◌, ◌≡◌, Bool, List, refl}
+use mathlib.Core.Logic.{inl, inr}
+use Rattle.std.specs.Coded.{Coded, code_by, coded×, coded⊎, coded_ℕ, coded_bool, coded_list}
 use Rattle.std.specs.FinMap as map
 use Rattle.com_io.specs.declared.memory_store.FailingWrite.{FailingWrite}
-use Rattle.com_io.specs.Stores.{Named, Opening, Closing, Writing, Contents}
+use Rattle.com_io.specs.Stores.{Named, StoreCall, Opened, Closed, Wrote, Contents}
 use Rattle.com_io.specs.Shelf.{Shelf}
 
 abbrev pub named_code : Coded Named
 named_code = map.code (coded_list coded_ℕ) (coded_list coded_ℕ)
 
-abbrev pub closing_code : Coded Closing
-closing_code =
-    code_by (ℕ × Bool) (coded× coded_ℕ coded_bool) (λ c. (c.left, c.failed))
-    (λ p. record { left = p.0; failed = p.1 }) (λ _. refl)
+-- the parts of a call
+abbrev Parts : Type 0
+Parts = (List ℕ × Bool) ⊎ ((ℕ × Bool) ⊎ (List ℕ × (List ℕ × Bool)))
 
-abbrev pub opening_code : Coded Opening
-opening_code =
-    code_by (List ℕ × Bool) (coded× (coded_list coded_ℕ) coded_bool) (λ o. (o.name, o.opened))
-    (λ p. record { name = p.0; opened = p.1 }) (λ _. refl)
+abbrev parts_code : Coded Parts
+parts_code =
+    coded⊎ (coded× (coded_list coded_ℕ) coded_bool)
+    (coded⊎ (coded× coded_ℕ coded_bool)
+    (coded× (coded_list coded_ℕ) (coded× (coded_list coded_ℕ) coded_bool)))
 
-abbrev pub writing_code : Coded Writing
-writing_code =
-    code_by (List ℕ × List ℕ) (coded× (coded_list coded_ℕ) (coded_list coded_ℕ))
-    (λ w. (w.name, w.bytes)) (λ p. record { name = p.0; bytes = p.1 }) (λ _. refl)
+abbrev parts_of : StoreCall → Parts
+parts_of (Opened name ok) = inl (name, ok)
+parts_of (Closed left failed) = inr (inl (left, failed))
+parts_of (Wrote name bytes ok) = inr (inr (name, (bytes, ok)))
 
--- the calls that were told
-abbrev Calls : Type 0
-Calls = List Opening × (List Closing × List Writing)
+abbrev of_parts : Parts → StoreCall
+of_parts (inl p) = Opened p.0 p.1
+of_parts (inr (inl p)) = Closed p.0 p.1
+of_parts (inr (inr p)) = Wrote p.0 p.1.0 p.1.1
 
-abbrev calls_code : Coded Calls
-calls_code =
-    coded× (coded_list opening_code) (coded× (coded_list closing_code) (coded_list writing_code))
+pub parts_back : (call : StoreCall) → of_parts (parts_of call) ≡ call
+parts_back (Opened name ok) = refl
+parts_back (Closed left failed) = refl
+parts_back (Wrote name bytes ok) = refl
+
+abbrev pub call_code : Coded StoreCall
+call_code = code_by Parts parts_code parts_of of_parts parts_back
 
 abbrev pub contents_code : Coded Contents
 contents_code =
-    code_by (Named × (Named × Calls)) (coded× named_code (coded× named_code calls_code))
-    (λ c. (c.files, (c.outs, (c.openings, (c.closed, c.writings)))))
-    (λ p. record {
-      files = p.0;
-      outs = p.1.0;
-      openings = p.1.1.0;
-      closed = p.1.1.1.0;
-      writings = p.1.1.1.1;
-    }) (λ _. refl)
+    code_by (Named × (Named × List StoreCall))
+    (coded× named_code (coded× named_code (coded_list call_code)))
+    (λ c. (c.files, (c.outs, c.calls)))
+    (λ p. record { files = p.0; outs = p.1.0; calls = p.1.1 }) (λ _. refl)
 
 abbrev pub failing_write_code : Coded FailingWrite
 failing_write_code =

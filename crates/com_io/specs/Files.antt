@@ -1,8 +1,13 @@
 -- What reading a whole file does to what a store shows.
 use Rattle.std.specs.Prelude.{◌≡◌, ℕ, ◌+◌, ◌-◌, ◌≤◌, ◌⊎◌, Bool, true, false, List, length, take, Option, Some, IfSome, option_map}
 use Rattle.std.specs.FinMap as map
+use Rattle.com_io.specs.declared.files.TheConstants.{FILE_LIMIT}
 use Rattle.com_io.specs.Faults.{Rose}
-use Rattle.com_io.specs.Stores.{Shown, Contents, with_opening, with_closing}
+use Rattle.com_io.specs.Stores.{Shown, Contents, StoreCall, Opened, Closed, with_call}
+
+-- at most this many bytes of a file are looked at
+abbrev pub file_limit : ℕ
+file_limit = FILE_LIMIT
 
 -- a file is read to its end, or to one byte past the limit
 abbrev pub bytes_read : ℕ → List ℕ → List ℕ
@@ -11,7 +16,7 @@ bytes_read limit file = take (limit + 1) file
 -- the file was opened, so many of its bytes were read, and it was closed
 abbrev pub with_reading : List ℕ → List ℕ → ℕ → Bool → Contents → Contents
 with_reading name file read failed c =
-    with_closing (record { left = length file - read; failed = failed }) (with_opening name true c)
+    with_call (Closed (length file - read) failed) (with_call (Opened name true) c)
 
 -- no fault was counted, and as many sources are open as before
 pub record HasNoFault (before after : Shown) : Type 0 where
@@ -30,7 +35,7 @@ pub record IsRead (limit : ℕ) (name bytes : List ℕ) (before after : Shown) :
 
 -- The file was asked for and not opened, and nothing else was asked for.
 pub record IsUnopened (name : List ℕ) (before after : Shown) : Type 0 where
-  pub contents : after.contents ≡ option_map (with_opening name false) before.contents
+  pub contents : after.contents ≡ option_map (with_call (Opened name false)) before.contents
   pub pending : after.pending ≡ before.pending
   pub rose : Rose before.open_faults after.open_faults
   pub read_faults : after.read_faults ≡ before.read_faults
@@ -56,6 +61,6 @@ pub record IsUnreadable (limit : ℕ) (name : List ℕ) (before after : Shown) :
 -- closed. Nothing else was asked for.
 pub record IsAbandoned (limit : ℕ) (name : List ℕ) (before after : Shown) : Type 0 where
   pub contents : (after.contents ≡ before.contents)
-      ⊎ ((after.contents ≡ option_map (with_opening name false) before.contents)
+      ⊎ ((after.contents ≡ option_map (with_call (Opened name false)) before.contents)
       ⊎ IsPartRead limit name false before.contents after.contents)
   pub no_fault : HasNoFault before after

@@ -3,6 +3,7 @@ pub mod Codes
 pub mod Faults
 pub mod Files
 pub mod Folder
+pub mod Kept
 pub mod Listed
 pub mod Named
 pub mod Reading

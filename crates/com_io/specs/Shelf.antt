@@ -7,7 +7,7 @@ use Rattle.com_io.specs.declared.store.StoreFault.TheVariants.{Failed, Memory}
 use Rattle.com_io.specs.declared.memory_store.FailingWrite.{FailingWrite}
 use Rattle.com_io.specs.Listed.{next_count}
 use Rattle.com_io.specs.Reading.{Reading}
-use Rattle.com_io.specs.Stores.{Named, Contents, with_opening, closing_of, with_closing, with_part, with_output}
+use Rattle.com_io.specs.Stores.{Named, Contents, Opened, openings, writings, with_call, closing_of, with_written, with_part, with_output}
 
 -- what it holds, how many of its sources are open, how often a call has failed, and which calls
 -- fail: openings and writes by number, and reads by number for each file's name
@@ -27,9 +27,7 @@ empty_shelf = record {
   held = record {
     files = map.empty;
     outs = map.empty;
-    openings = [];
-    closed = [];
-    writings = [];
+    calls = [];
   };
   pending = 0;
   open_faults = 0;
@@ -64,14 +62,14 @@ with_failing_read name k s = record s {
 -- an opening fails where it is listed, or where there is no such file
 abbrev pub is_failing_open : List ℕ → Shelf → Bool
 is_failing_open name s =
-    list_any (λ k. k == length s.held.openings + 1) s.failing_opens
+    list_any (λ k. k == length (openings s.held.calls) + 1) s.failing_opens
     || is_none (map.get s.held.files name)
 
 abbrev pub after_open : {S : Type 0} → List ℕ → Result S StoreFault → Shelf → Shelf
 after_open name (Ok _) s =
-    record s { held = with_opening name true s.held; pending = s.pending + 1 }
+    record s { held = with_call (Opened name true) s.held; pending = s.pending + 1 }
 after_open name (Err Failed) s = record s {
-  held = with_opening name false s.held;
+  held = with_call (Opened name false) s.held;
   open_faults = next_count s.open_faults;
 }
 after_open name (Err Memory) s = s
@@ -86,7 +84,7 @@ pub record IsNewReading (name : List ℕ) (s : Shelf) (source : Reading) : Type 
 
 abbrev pub after_close : Reading → Shelf → Shelf
 after_close r s = record s {
-  held = with_closing (closing_of (Some r.left) r.faults) s.held;
+  held = with_call (closing_of (Some r.left) r.faults) s.held;
   pending = s.pending - 1;
   read_faults = if nat_lt 0 r.faults then next_count s.read_faults else s.read_faults;
 }
@@ -95,7 +93,12 @@ after_close r s = record s {
 abbrev pub next_keep : Shelf → Option ℕ
 next_keep s =
     option_map (λ f. f.keep)
-    (find (λ f. f.number == length s.held.writings + 1) s.failing_writes)
+    (find (λ f. f.number == length (writings s.held.calls) + 1) s.failing_writes)
+
+-- a part of the bytes of a write was written
+abbrev pub with_write : List ℕ → List ℕ → List ℕ → Bool → Shelf → Shelf
+with_write name bytes part ok s =
+    record s { held = with_written name bytes part ok s.held }
 
 abbrev pub after_write : {T : Type 0} → List ℕ → List ℕ → Result T StoreFault → Shelf → Shelf
 after_write name bytes (Ok _) s = record s { held = with_output name bytes s.held }

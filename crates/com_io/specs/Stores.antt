@@ -1,5 +1,5 @@
--- What a store holds and which calls it was asked for, where it tells.
-use Rattle.std.specs.Prelude.{◌≡◌, ℕ, ◌<◌, ◌≤◌, Bool, true, false, nat_lt, List, [], ◌∷◌, ◌++◌, length, take, Option, IsSome, IfSome, option_map, unwrap_or, if◌then◌else◌, codes, ◌⊎◌, Result, Ok, Err}
+-- What a store holds and which calls were made on it, where it tells.
+use Rattle.std.specs.Prelude.{◌≡◌, ℕ, ◌<◌, ◌≤◌, Bool, true, false, nat_lt, List, [], ◌∷◌, ◌++◌, length, take, filter_map, Option, Some, None, IsSome, IfSome, option_map, unwrap_or, if◌then◌else◌, codes, ◌⊎◌, Result, Ok, Err}
 use Rattle.std.specs.Ordering.{nat_cmp}
 use Rattle.std.specs.Cmp.Lexicographic.{slice_cmp}
 use Rattle.std.specs.Str.{bytes_eq}
@@ -13,29 +13,53 @@ use Rattle.com_io.specs.Faults.{Rose}
 abbrev pub Named : Type 0
 Named = FinMap (slice_cmp nat_cmp) (List ℕ)
 
--- an opening that was asked for, and whether it answered Ok
-pub record Opening : Type 0 where
-  pub name : List ℕ
-  pub opened : Bool
+-- a call that was made on a store
+pub data StoreCall : Type 0 where
+  -- the opening of this name, and whether it answered Ok
+  Opened : List ℕ → Bool → StoreCall
+  -- the closing of a source: how many bytes it had left, and whether a read of it had failed
+  Closed : ℕ → Bool → StoreCall
+  -- the write of these bytes under this name, and whether it answered Ok
+  Wrote : List ℕ → List ℕ → Bool → StoreCall
 
--- how a source was closed: the number of bytes that it had left, and whether it had failed
-pub record Closing : Type 0 where
-  pub left : ℕ
-  pub failed : Bool
+-- The files that can be read, what was written, and all calls so far, in order. The list of calls
+-- only grows.
+pub record Contents : Type 0 where
+  pub files : Named
+  pub outs : Named
+  pub calls : List StoreCall
 
--- a write that was asked for
+-- the name that a call asked to open
+abbrev pub opened_name : StoreCall → Option (List ℕ)
+opened_name (Opened name ok) = Some name
+opened_name _ = None
+
+-- the names that were asked for, in order
+abbrev pub openings : List StoreCall → List (List ℕ)
+openings calls = filter_map opened_name calls
+
+-- what a closed source had left, and whether it had failed
+abbrev pub closing : StoreCall → Option (ℕ × Bool)
+closing (Closed left failed) = Some (left, failed)
+closing _ = None
+
+-- how sources were closed, in order
+abbrev pub closings : List StoreCall → List (ℕ × Bool)
+closings calls = filter_map closing calls
+
+-- what was to be written under a name
 pub record Writing : Type 0 where
   pub name : List ℕ
   pub bytes : List ℕ
 
--- The files that can be read, what was written, and the calls: each opening, each closing and each
--- write, in order. These three lists only grow.
-pub record Contents : Type 0 where
-  pub files : Named
-  pub outs : Named
-  pub openings : List Opening
-  pub closed : List Closing
-  pub writings : List Writing
+-- what a call asked to write
+abbrev pub writing_asked : StoreCall → Option Writing
+writing_asked (Wrote name bytes ok) = Some (record { name = name; bytes = bytes })
+writing_asked _ = None
+
+-- the writes that were asked for, in order
+abbrev pub writings : List StoreCall → List Writing
+writings calls = filter_map writing_asked calls
 
 -- What a store shows at one moment. What it holds may be untold, and then nothing is said of it.
 pub record Shown : Type 0 where
@@ -55,27 +79,21 @@ pub record IsOpened (held : Option Contents) (name : List ℕ) (left : Option (L
   pub bytes : IfSome held (λ c. (left ≡ map.get c.files name) × IsSome left)
   pub unfailed : faults ≡ 0
 
--- one more opening was asked for
-abbrev pub with_opening : List ℕ → Bool → Contents → Contents
-with_opening name opened c =
-    record c { openings = c.openings ++ record { name = name; opened = opened } ∷ [] }
+-- one more call was made
+abbrev pub with_call : StoreCall → Contents → Contents
+with_call call c = record c { calls = c.calls ++ call ∷ [] }
 
 -- What became of an opening. It is told; only one that wanted memory may be untold.
 abbrev pub IsOpening : {S : Type 0} → List ℕ → Result S StoreFault → Option Contents
     → Option Contents → Type 0
-IsOpening name (Ok _) before after = after ≡ option_map (with_opening name true) before
-IsOpening name (Err Failed) before after = after ≡ option_map (with_opening name false) before
+IsOpening name (Ok _) before after = after ≡ option_map (with_call (Opened name true)) before
+IsOpening name (Err Failed) before after = after ≡ option_map (with_call (Opened name false)) before
 IsOpening name (Err Memory) before after =
-    (after ≡ before) ⊎ (after ≡ option_map (with_opening name false) before)
+    (after ≡ before) ⊎ (after ≡ option_map (with_call (Opened name false)) before)
 
 -- of a source that does not tell what it has left, the number is 0
-abbrev pub closing_of : Option (List ℕ) → ℕ → Closing
-closing_of left faults =
-    record { left = unwrap_or (option_map length left) 0; failed = nat_lt 0 faults }
-
--- one more source is closed
-abbrev pub with_closing : Closing → Contents → Contents
-with_closing closing c = record c { closed = c.closed ++ closing ∷ [] }
+abbrev pub closing_of : Option (List ℕ) → ℕ → StoreCall
+closing_of left faults = Closed (unwrap_or (option_map length left) 0) (nat_lt 0 faults)
 
 -- the count of failed reads rises at a closing exactly where the source had failed
 pub record CountsClosing (faults before now : ℕ) : Type 0 where
@@ -94,25 +112,23 @@ outs_with_output name bytes outs =
     then map.insert outs name (unwrap_or (map.get outs name) [] ++ bytes)
     else map.insert outs name bytes
 
--- one more write was asked for
-abbrev pub with_writing : List ℕ → List ℕ → Contents → Contents
-with_writing name bytes c =
-    record c { writings = c.writings ++ record { name = name; bytes = bytes } ∷ [] }
+-- a write was asked for, and this part of its bytes was written
+abbrev pub with_written : List ℕ → List ℕ → List ℕ → Bool → Contents → Contents
+with_written name bytes part ok c =
+    with_call (Wrote name bytes ok) (record c { outs = outs_with_output name part c.outs })
 
--- a front of the bytes, of this length, was written
+-- a prefix of the bytes, of this length, was written
 abbrev pub with_part : List ℕ → List ℕ → ℕ → Contents → Contents
-with_part name bytes n c =
-    with_writing name bytes (record c { outs = outs_with_output name (take n bytes) c.outs })
+with_part name bytes n c = with_written name bytes (take n bytes) false c
 
 -- the bytes were written
 abbrev pub with_output : List ℕ → List ℕ → Contents → Contents
-with_output name bytes c =
-    with_writing name bytes (record c { outs = outs_with_output name bytes c.outs })
+with_output name bytes c = with_written name bytes bytes true c
 
 -- the write is told, and wrote nothing or a front of the bytes
 abbrev pub IsPartWritten : List ℕ → List ℕ → Option Contents → Option Contents → Type 0
 IsPartWritten name bytes before after =
-    (after ≡ option_map (with_writing name bytes) before)
+    (after ≡ option_map (with_call (Wrote name bytes false)) before)
     ⊎ ((n : ℕ) × (after ≡ option_map (with_part name bytes n) before))
 
 -- A write that was not done is told. Only one that wanted memory, and wrote nothing, may be untold.

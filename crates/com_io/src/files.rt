@@ -8,6 +8,9 @@ use crate::{Source, Store, StoreFault};
 use std::alloc::{AllocError, Global};
 use thiserror::Error;
 
+/// How many bytes of one file are looked at.
+pub const FILE_LIMIT: usize = 1_048_576;
+
 /// How many bytes are read at once.
 const CHUNK: usize = 4_096;
 

@@ -1,9 +1,10 @@
 //! A store in memory, which can be told to fail. It tells all that it holds.
-ghost use Rattle.std.specs.Prelude.{◌≡◌, ◌+◌, ◌≤◌, ◌↔◌, ◌⊎◌, length, IsSome, IsTrue, IfOk, OnOk, OnErr, IsErrOf};
+ghost use Rattle.std.specs.Prelude.{◌≡◌, ◌+◌, ◌≤◌, ◌↔◌, ◌⊎◌, length, map, is_some, IsSome, IsTrue, IfOk, OnOk, OnErr, IsErrOf};
 ghost use Rattle.std.specs.Option.{option_copied};
 ghost use Rattle.std.specs.FinMap as finite;
-ghost use Rattle.com_io.specs.Shelf.{empty_shelf, with_file, with_failing_open, with_failing_write, with_failing_read, is_failing_open, after_open, IsNewReading, after_close, next_keep, after_write};
-ghost use Rattle.com_io.specs.Stores.{outs_with_output};
+ghost use Rattle.com_io.specs.Shelf.{empty_shelf, with_file, with_failing_open, with_failing_write, with_failing_read, is_failing_open, after_open, IsNewReading, after_close, next_keep, with_write, after_write};
+ghost use Rattle.com_io.specs.Stores.{openings, opened_name, outs_with_output, writings, writing_asked};
+ghost use Rattle.com_io.specs.Kept.{call_of};
 
 use crate::adapter::is_standard_output;
 use crate::named::Named;
@@ -11,27 +12,41 @@ use crate::{MemorySource, Store, StoreFault};
 use std::alloc::{AllocError, Global};
 use std::marker::Model;
 
-/// An opening that was asked for, and whether it answered Ok.
+/// A call that was made on the store.
 #[derive(Debug, Drop)]
-struct Opening {
-    name: String,
-    opened: bool,
+enum Call {
+    /// The opening of a name, and whether it answered Ok.
+    Opened {
+        name: String,
+        ok: bool,
+    },
+    /// The closing of a source: how many bytes it had left, and whether a read of it had failed.
+    Closed {
+        left: usize,
+        failed: bool,
+    },
+    /// The write of some bytes under a name, and whether it answered Ok.
+    Wrote {
+        name: String,
+        bytes: Vec<u8>,
+        ok: bool,
+    },
 }
 
-/// How a source was closed: the bytes that it had left, and whether it had failed.
-#[derive(Clone, Copy, Debug, PartialEq, Eq)]
-struct Closing {
-    /// How many bytes it had left.
-    left: usize,
-    /// Whether a read of it had failed.
-    failed: bool,
-}
+impl Call {
+    /// Tells an opening.
+    fn is_opening(&self) -> bool
+        ensures { result ≡ is_some (opened_name (call_of self.now)) }
+    {
+        matches!(self, Call::Opened { .. })
+    }
 
-/// A write that was asked for.
-#[derive(Debug, Drop)]
-struct Writing {
-    name: String,
-    bytes: Vec<u8>,
+    /// Tells a write.
+    fn is_write(&self) -> bool
+        ensures { result ≡ is_some (writing_asked (call_of self.now)) }
+    {
+        matches!(self, Call::Wrote { .. })
+    }
 }
 
 /// A write that fails, by its number, and how many bytes it writes before.
@@ -52,12 +67,8 @@ pub struct MemoryStore {
     files: Named<u8>,
     /// What was written.
     outs: Named<u8>,
-    /// Each opening that was asked for, in order.
-    openings: Vec<Opening>,
-    /// Each closing, in order.
-    closed: Vec<Closing>,
-    /// Each write that was asked for, in order.
-    writings: Vec<Writing>,
+    /// Each call, in order.
+    calls: Vec<Call>,
     /// How many sources are open.
     pending: usize,
     /// How often an opening has failed.
@@ -74,9 +85,10 @@ pub struct MemoryStore {
 }
 
 impl Model for MemoryStore {
-    ghost use Rattle.std.specs.Prelude.{◌+◌, ◌≤◌, map, string_bytes, vec_len, vec_capacity};
+    ghost use Rattle.std.specs.Prelude.{◌+◌, ◌≤◌, map, vec_len, vec_capacity};
     ghost use Rattle.com_io.specs.Shelf.{Shelf};
     ghost use Rattle.com_io.specs.Codes.{shelf_code};
+    ghost use Rattle.com_io.specs.Kept.{call_of};
 
     ghost Value = { Shelf };
 
@@ -86,11 +98,7 @@ impl Model for MemoryStore {
       held = record {
         files = s.files;
         outs = s.outs;
-        openings =
-            map (λ o. record { name = string_bytes o.name; opened = o.opened }) s.openings.items;
-        closed = map (λ c. record { left = c.left; failed = c.failed }) s.closed.items;
-        writings =
-            map (λ w. record { name = string_bytes w.name; bytes = w.bytes.items }) s.writings.items;
+        calls = map call_of s.calls.items;
       };
       pending = s.pending;
       open_faults = s.open_faults;
@@ -102,7 +110,7 @@ impl Model for MemoryStore {
     } };
 
     // There is room for the closing of each open source.
-    ghost invariant = { λ s. s.pending + vec_len s.closed ≤ vec_capacity s.closed };
+    ghost invariant = { λ s. s.pending + vec_len s.calls ≤ vec_capacity s.calls };
 }
 
 /// By hand, so that a proof has one step for it, where it would have one for each field.
@@ -112,9 +120,7 @@ impl Drop for MemoryStore {
             alloc: _,
             files: _,
             outs: _,
-            openings: _,
-            closed: _,
-            writings: _,
+            calls: _,
             pending: _,
             open_faults: _,
             read_faults: _,
@@ -135,9 +141,7 @@ impl MemoryStore {
             alloc,
             files: Named::new(alloc),
             outs: Named::new(alloc),
-            openings: Vec::new(alloc),
-            closed: Vec::new(alloc),
-            writings: Vec::new(alloc),
+            calls: Vec::new(alloc),
             pending: 0,
             open_faults: 0,
             read_faults: 0,
@@ -194,16 +198,16 @@ impl MemoryStore {
 
     /// The number of the next opening, from 1.
     fn next_opening(&self) -> u64
-        ensures { result ≡ length self.now.held.openings + 1 }
+        ensures { result ≡ length (openings self.now.held.calls) + 1 }
     {
-        self.openings.len() as u64 + 1
+        openings_in(self.calls.as_slice()) as u64 + 1
     }
 
     /// The number of the next write, from 1.
     fn next_writing(&self) -> u64
-        ensures { result ≡ length self.now.held.writings + 1 }
+        ensures { result ≡ length (writings self.now.held.calls) + 1 }
     {
-        self.writings.len() as u64 + 1
+        writes_in(self.calls.as_slice()) as u64 + 1
     }
 
     /// Whether the next opening of the name fails.
@@ -223,6 +227,30 @@ impl MemoryStore {
         Some(write.keep)
     }
 
+    /// Writes a part of the bytes of a write, and keeps the call. Without memory nothing changes.
+    fn add_write(
+        &mut self,
+        name: &str,
+        bytes: &[u8],
+        part: &[u8],
+        ok: bool,
+    ) -> Result<(), AllocError>
+        ensures ok { OnOk result (self.new
+            ≡ with_write name.now bytes.now part.now ok self.old) }
+        ensures err { OnErr result (self.new ≡ self.old) }
+    {
+        let write = Call::Wrote {
+            name: String::from_str(self.alloc, name)?,
+            bytes: Vec::from_slice(self.alloc, bytes)?,
+            ok,
+        };
+        // Room for this call, and for the closing of each open source.
+        self.calls.reserve(self.pending + 1)?;
+        write_out(self.alloc, &mut self.outs, name, part)?;
+        self.calls.push(write).unwrap();
+        Ok(())
+    }
+
     /// A source of the file of the name.
     fn new_source(&self, name: &str) -> Result<MemorySource, AllocError>
         requires { IsSome (finite.get self.now.held.files name.now) }
@@ -235,6 +263,24 @@ impl MemoryStore {
             failing.unwrap_or(Vec::new(self.alloc)),
         ))
     }
+}
+
+/// How many of some calls are openings.
+#[tactic(auto, using(crate::proofs::Counting::openings_counted))]
+fn openings_in(calls: &[Call]) -> usize
+    ensures count { result ≡ length (openings (map call_of calls.now)) }
+    ensures bound { result ≤ length calls.now }
+{
+    calls.iter().filter(|call| call.is_opening()).count()
+}
+
+/// How many of some calls are writes.
+#[tactic(auto, using(crate::proofs::Counting::writings_counted))]
+fn writes_in(calls: &[Call]) -> usize
+    ensures count { result ≡ length (writings (map call_of calls.now)) }
+    ensures bound { result ≤ length calls.now }
+{
+    calls.iter().filter(|call| call.is_write()).count()
 }
 
 /// Adds the bytes to what stands under the name, if it is standard output's, or puts them there.
@@ -275,19 +321,20 @@ impl Store for MemoryStore {
         ensures after { self.new ≡ after_open name.now result self.old }
         ensures opened { IfOk result (IsNewReading name.now self.old) }
     {
-        let opened = !self.is_failing_open(name);
-        let opening = Opening {
+        let ok = !self.is_failing_open(name);
+        let opening = Call::Opened {
             name: String::from_str(self.alloc, name)?,
-            opened,
+            ok,
         };
-        if !opened {
-            self.openings.push(opening)?;
+        // Room for this call, and for the closing of each source that is open behind it.
+        self.calls.reserve(self.pending + 2)?;
+        if !ok {
+            self.calls.push(opening).unwrap();
             self.open_faults = self.open_faults.saturating_add(1);
             return Err(StoreFault::Failed);
         }
         let source = self.new_source(name)?;
-        self.closed.reserve(self.pending + 1)?;
-        self.openings.push(opening)?;
+        self.calls.push(opening).unwrap();
         self.pending += 1;
         Ok(source)
     }
@@ -303,7 +350,7 @@ impl Store for MemoryStore {
         }
         let left = source.left_len();
         // There is room for it since the opening.
-        self.closed.push(Closing { left, failed }).unwrap();
+        self.calls.push(Call::Closed { left, failed }).unwrap();
         self.pending -= 1;
     }
 
@@ -314,22 +361,10 @@ impl Store for MemoryStore {
             ⊎ (IsErrOf result StoreFault.Failed ↔ IsSome (next_keep self.old)) }
         ensures after { self.new ≡ after_write name.now bytes.now result self.old }
     {
-        let kept = self.next_keep();
-        let front = match kept {
-            Some(keep) => &bytes[..keep.min(bytes.len())],
-            None => bytes,
+        let Some(keep) = self.next_keep() else {
+            return Ok(self.add_write(name, bytes, bytes, true)?);
         };
-        let writing = Writing {
-            name: String::from_str(self.alloc, name)?,
-            bytes: Vec::from_slice(self.alloc, bytes)?,
-        };
-        self.writings.reserve(1)?;
-        write_out(self.alloc, &mut self.outs, name, front)?;
-        // There is room for it.
-        self.writings.push(writing).unwrap();
-        if kept.is_none() {
-            return Ok(());
-        }
+        self.add_write(name, bytes, &bytes[..keep.min(bytes.len())], false)?;
         self.write_faults = self.write_faults.saturating_add(1);
         Err(StoreFault::Failed)
     }

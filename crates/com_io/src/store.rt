@@ -1,7 +1,7 @@
 //! Where files are kept, and where everything is written.
 ghost use Rattle.std.specs.Prelude.{◌≡◌, ◌+◌, ◌≤◌, option_map, is_ok, if◌then◌else◌, IfOk, IsOk, IsErrOf};
 ghost use Rattle.com_io.specs.Faults.{HasCause};
-ghost use Rattle.com_io.specs.Stores.{Shown, IsOpened, IsOpening, closing_of, with_closing, CountsClosing, IsWriting};
+ghost use Rattle.com_io.specs.Stores.{Shown, IsOpened, IsOpening, closing_of, with_call, CountsClosing, IsWriting};
 
 use crate::Source;
 use std::alloc::{AllocError, AllocFailed};
@@ -72,7 +72,7 @@ pub trait Store {
     fn close(&mut self, source: Self::Src)
         requires { 1 ≤ (shows self.old).pending }
         ensures contents { (shows self.new).contents
-            ≡ option_map (with_closing (closing_of (Self.Src.left source) (Self.Src.faults source)))
+            ≡ option_map (with_call (closing_of (Self.Src.left source) (Self.Src.faults source)))
             (shows self.old).contents }
         ensures pending { (shows self.new).pending + 1 ≡ (shows self.old).pending }
 

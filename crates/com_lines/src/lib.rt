@@ -27,6 +27,7 @@
 mod encoding;
 mod framer;
 mod laws;
+pub mod limits;
 mod reading;
 mod rendering;
 

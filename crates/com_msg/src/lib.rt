@@ -27,6 +27,7 @@
 
 mod begun;
 mod framing;
+pub mod limits;
 mod message;
 mod rest;
 mod segments;

@@ -27,6 +27,7 @@ mod gather;
 mod key_faults;
 mod keys;
 mod laws;
+pub mod limits;
 mod name_faults;
 mod net;
 mod paths;

@@ -40,6 +40,7 @@
 #![tactic(auto)]
 
 mod laws;
+pub mod limits;
 mod parties;
 mod state;
 

@@ -23,6 +23,7 @@
 
 mod counted;
 mod decimal;
+pub mod limits;
 mod name;
 mod name_path;
 mod rows;

@@ -24,6 +24,7 @@
 
 mod build;
 mod laws;
+pub mod limits;
 mod search;
 mod tree;
 
