@@ -4,6 +4,7 @@ mod Designating
 mod Fields
 pub mod Handing
 pub mod Places
+pub mod Queued
 mod Receiving
 mod Taking
 pub mod Members
