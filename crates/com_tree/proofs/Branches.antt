@@ -1,12 +1,12 @@
 -- Branches of trees, and how many leaves they have.
-use Rattle.std.proofs.Common.{◌≡◌, ℕ, suc, ◌+◌, ◌<◌, ◌≤◌, Bool, true, List, [], ◌∷◌, length, take, drop, get_or, refl, ap, arith}
+use Rattle.std.proofs.Common.{◌≡◌, ℕ, suc, ◌+◌, ◌<◌, ◌≤◌, Bool, true, List, [], ◌∷◌, length, take, drop, get_or, refl, ap, arith, inl, inr}
 use Rattle.std.specs.Prelude.{IsTrue, ◌==◌}
 use Rattle.std.specs.List.{prefix_len, take_while}
 use Rattle.std.proofs.lemmas.List.{drop_more}
 use mathlib.Core.Bool.{cond}
-use Rattle.std.proofs.lemmas.Bool.{false≢true}
+use Rattle.std.proofs.lemmas.Bool.{cases_Bool, false≢true}
 use Rattle.std.proofs.lemmas.List.Folds.{length-prefix_len}
-use Rattle.std.proofs.lemmas.List.Sums.{sum_by-take-le, sum_by-take-drop}
+use Rattle.std.proofs.lemmas.List.Sums.{take_while-cons, sum_by-take-le, sum_by-take-drop}
 use Rattle.com_tree.specs.declared.tree.TreeRow.{TreeRow}
 use Rattle.com_tree.specs.Written.{is_leaf, is_deeper, rows_below, leaf_count, top_count, are_nested, is_forest}
 use Rattle.com_tree.specs.Places.{branch_of}
@@ -15,6 +15,14 @@ use Rattle.com_tree.proofs.Building.{both}
 -- the longest front that passes a test is as many rows from the front
 pub as_many : (p : TreeRow → Bool) (xs : List TreeRow) → take (length (take_while p xs)) xs ≡ take_while p xs
 as_many p xs = ap (λ n. take n xs) (length-prefix_len p xs)
+
+-- it is no longer than the list
+pub few_below : (p : TreeRow → Bool) (xs : List TreeRow) → length (take_while p xs) ≤ length xs
+few_below p [] = omega arith
+few_below p (x ∷ xs) = elim (cases_Bool (p x)) [
+  | inl passes ↦ rw (take_while-cons p x xs, passes) (omega (arith, few_below p xs))
+  | inr fails ↦ rw (take_while-cons p x xs, fails) (omega arith)
+]
 
 -- a node with as many rows behind it as stand below it is its branch
 pub branch_taken : (rows : List TreeRow) (at : ℕ) (row : TreeRow) → at < length rows → row ≡ get_or rows at row

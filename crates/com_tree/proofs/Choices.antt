@@ -1,12 +1,13 @@
 -- The choice of a node, from its last child back.
 use Rattle.std.proofs.Common.{◌≡◌, ℕ, suc, ◌+◌, true, false, List, ◌∷◌, length, drop, map, Some, None, refl, sym, ◌∙◌}
-use Rattle.std.specs.Prelude.{Option, slice_get, ◌==◌, if◌then◌else◌}
+use Rattle.std.specs.Prelude.{Option, option_map, slice_get, ◌==◌, if◌then◌else◌}
 use Rattle.std.specs.List.{filter, range_with_len}
 use Rattle.com_tree.specs.declared.tree.TreeRow.{TreeRow}
 use Rattle.com_tree.specs.declared.tree.Node.{Node}
 use Rattle.com_tree.specs.declared.tree.Choose.{Choose}
 use Rattle.com_tree.specs.declared.tree.Choose.TheVariants.{Ordered, Oldest}
 use Rattle.com_tree.specs.Written.{rows_below}
+use Rattle.com_tree.specs.Places.{first_leaf}
 use Rattle.com_tree.specs.NextLeaf.{node_at, below, level, is_next_level, first_found, is_later, oldest, chosen, choice}
 use Rattle.com_tree.specs.Choosing.{better}
 
@@ -54,6 +55,11 @@ no_child levels rows first choose node at next count more behind step larger is 
 pub child_test : (rows : List TreeRow) (at child : ℕ) (row other : TreeRow) → slice_get rows at ≡ Some row → slice_get rows child ≡ Some other
     → is_next_level (level rows (node_at at)) (level rows (node_at child)) ≡ (other.depth == row.depth + 1)
 child_test rows at child row other here there = rw (here, there) refl
+
+-- the choice of a leaf is by its own first message
+pub choice_of_leaf : (levels : ℕ) (rows : List TreeRow) (first : ℕ → Option ℕ) (at : ℕ) (row : TreeRow) → slice_get rows at ≡ Some row → row.choose ≡ None
+    → choice (suc levels) rows first (node_at at) ≡ option_map (λ arrival. first_leaf rows (node_at at)) (first (first_leaf rows (node_at at)))
+choice_of_leaf levels rows first at row here leaf = rw (here, leaf) refl
 
 -- the choice of an inner node is by all its children
 pub choice_of_inner : (levels : ℕ) (rows : List TreeRow) (first : ℕ → Option ℕ) (at : ℕ) (row : TreeRow) (choose : Choose) → slice_get rows at ≡ Some row → row.choose ≡ Some choose

@@ -76,11 +76,11 @@ first_here [] xs x (suc at) is = cc
 first_here (y ∷ rows) xs x zero is = cc
 first_here (y ∷ rows) xs x (suc at) is = first_here rows xs x at is
 
-counted_more : (rows : List TreeRow) (at m : ℕ) → leaf_count (take (at + m) rows) ≡ leaf_count (take at rows) + leaf_count (take m (drop at rows))
+pub counted_more : (rows : List TreeRow) (at m : ℕ) → leaf_count (take (at + m) rows) ≡ leaf_count (take at rows) + leaf_count (take m (drop at rows))
 counted_more rows at m = ap leaf_count (take-add at m rows) ∙ sum_by-append (λ (r : TreeRow). cond (is_leaf r) 1 0) (take at rows) (take m (drop at rows))
 
 -- a longer front has no fewer leaves
-counted_less : (rows : List TreeRow) (i j : ℕ) → i ≤ j → leaf_count (take i rows) ≤ leaf_count (take j rows)
+pub counted_less : (rows : List TreeRow) (i j : ℕ) → i ≤ j → leaf_count (take i rows) ≤ leaf_count (take j rows)
 counted_less rows i j less =
     let same : i + (j - i) ≡ j = omega (arith, less) in
     let more : leaf_count (take j rows) ≡ leaf_count (take i rows) + leaf_count (take (j - i) (drop i rows)) = rw same at (counted_more rows i (j - i)) in
@@ -170,7 +170,7 @@ some_behind : (choose : Choose) (first : ℕ → Option ℕ) (one behind : Optio
 some_behind choose first None behind h = h
 some_behind choose first (Some leaf) behind h = some_first choose first (Some leaf) behind refl
 
-one_of : (choose : Choose) (first : ℕ → Option ℕ) (one behind : Option ℕ) (leaf : ℕ) → better choose first one behind ≡ Some leaf → (one ≡ Some leaf) ⊎ (behind ≡ Some leaf)
+pub one_of : (choose : Choose) (first : ℕ → Option ℕ) (one behind : Option ℕ) (leaf : ℕ) → better choose first one behind ≡ Some leaf → (one ≡ Some leaf) ⊎ (behind ≡ Some leaf)
 one_of choose first None behind leaf is = inr is
 one_of choose first (Some a) None leaf is = inl is
 one_of Ordered first (Some a) (Some b) leaf is = inl is
@@ -249,11 +249,11 @@ none_under row (next ∷ rows) nested leaf =
     rw (take_while-cons (is_deeper row.depth) next rows, higher) refl
 
 -- what stands where a node is
-record IsNodeAt (rows : List TreeRow) (at : ℕ) (row : TreeRow) : Type 0 where
-  here : slice_get rows at ≡ Some row
-  left : drop at rows ≡ row ∷ drop (at + 1) rows
-  nested : are_nested row (drop (at + 1) rows) ≡ true
-  step : IsStep row (drop (at + 1) rows)
+pub record IsNodeAt (rows : List TreeRow) (at : ℕ) (row : TreeRow) : Type 0 where
+  pub here : slice_get rows at ≡ Some row
+  pub left : drop at rows ≡ row ∷ drop (at + 1) rows
+  pub nested : are_nested row (drop (at + 1) rows) ≡ true
+  pub step : IsStep row (drop (at + 1) rows)
 
 left_at : (rows : List TreeRow) (at : ℕ) (row : TreeRow) → slice_get rows at ≡ Some row → drop at rows ≡ row ∷ drop (at + 1) rows
 left_at [] at row here = absurd (none-some row here)
@@ -262,14 +262,14 @@ left_at (x ∷ rows) (suc at) row here =
     let next : suc at + 1 ≡ suc (at + 1) = omega arith in
     rw next (left_at rows at row here)
 
-node_of : (rows : List TreeRow) (at : ℕ) (row : TreeRow) → IsWritten rows → slice_get rows at ≡ Some row → IsNodeAt rows at row
+pub node_of : (rows : List TreeRow) (at : ℕ) (row : TreeRow) → IsWritten rows → slice_get rows at ≡ Some row → IsNodeAt rows at row
 node_of rows at row written here =
     let left = left_at rows at row here in
     let rest = rw left at (rest_at rows at (all_left rows written)) in
     record { here = here; left = left; nested = rest.nested; step = step_of row (drop (at + 1) rows) rest }
 
 -- past the last leaf of a node: as many rows on as stand below it, and one
-branch_past : (rows : List TreeRow) (at : ℕ) (row : TreeRow) → IsNodeAt rows at row → past_leaf rows (node_at at) ≡ leaf_count (take (at + suc (length (rows_below row.depth (drop (at + 1) rows)))) rows)
+pub branch_past : (rows : List TreeRow) (at : ℕ) (row : TreeRow) → IsNodeAt rows at row → past_leaf rows (node_at at) ≡ leaf_count (take (at + suc (length (rows_below row.depth (drop (at + 1) rows)))) rows)
 branch_past rows at row node =
     let under = rows_below row.depth (drop (at + 1) rows) in
     let branch : branch_of (drop at rows) ≡ row ∷ under = rw node.left refl in
@@ -277,7 +277,7 @@ branch_past rows at row node =
     ap (λ b. leaf_count (take at rows) + leaf_count b) (branch ∙ sym front) ∙ sym (counted_more rows at (suc (length under)))
 
 -- a leaf is the only leaf under it
-leaf_past : (rows : List TreeRow) (at : ℕ) (row : TreeRow) → IsNodeAt rows at row → is_leaf row ≡ true → past_leaf rows (node_at at) ≡ first_leaf rows (node_at at) + 1
+pub leaf_past : (rows : List TreeRow) (at : ℕ) (row : TreeRow) → IsNodeAt rows at row → is_leaf row ≡ true → past_leaf rows (node_at at) ≡ first_leaf rows (node_at at) + 1
 leaf_past rows at row node leaf =
     let none = none_under row (drop (at + 1) rows) node.nested leaf in
     let branch : branch_of (drop at rows) ≡ row ∷ [] = rw node.left (ap (λ rest. row ∷ rest) none) in
@@ -323,7 +323,7 @@ same_number : (a b : ℕ) → a ≡ b → (a == b) ≡ true
 same_number a b is = grind (arith, nat_tests, is)
 
 -- the row of a child
-child_row : (rows : List TreeRow) (at child : ℕ) (row : TreeRow) → slice_get rows at ≡ Some row → is_next_level (level rows (node_at at)) (level rows (node_at child)) ≡ true
+pub child_row : (rows : List TreeRow) (at child : ℕ) (row : TreeRow) → slice_get rows at ≡ Some row → is_next_level (level rows (node_at at)) (level rows (node_at child)) ≡ true
     → (other : TreeRow) × (slice_get rows child ≡ Some other) × (other.depth ≡ row.depth + 1)
 child_row rows at child row here next = by_row (slice_get rows child) refl
   where
@@ -333,7 +333,7 @@ child_row rows at child row here next = by_row (slice_get rows child) refl
         let level : (other.depth == row.depth + 1) ≡ true = sym (child_test rows at child row other here is) ∙ next in
         (other, is, grind (arith, nat_tests, level))
 
-within_branch : (rows : List TreeRow) (at child : ℕ) (row other : TreeRow) → IsNodeAt rows at row → IsNodeAt rows child other → at + 1 ≤ child → child < at + 1 + length (rows_below row.depth (drop (at + 1) rows)) → other.depth ≡ row.depth + 1
+pub within_branch : (rows : List TreeRow) (at child : ℕ) (row other : TreeRow) → IsNodeAt rows at row → IsNodeAt rows child other → at + 1 ≤ child → child < at + 1 + length (rows_below row.depth (drop (at + 1) rows)) → other.depth ≡ row.depth + 1
     → past_leaf rows (node_at child) ≤ past_leaf rows (node_at at)
 within_branch rows at child row other node below least most level =
     let under = rows_below row.depth (drop (at + 1) rows) in
@@ -375,7 +375,7 @@ node_chooses (suc levels) rows first at leaf row written here deep waits =
         (some_chosen (length (rows_below row.depth (drop (at + 1) rows))) levels rows first choose (node_at at) (at + 1) child.place child.least child.most next own)
 
 -- and what it chooses waits under it
-node_chosen : (levels : ℕ) (rows : List TreeRow) (first : ℕ → Option ℕ) (at leaf : ℕ) (row : TreeRow) → IsWritten rows → slice_get rows at ≡ Some row
+pub node_chosen : (levels : ℕ) (rows : List TreeRow) (first : ℕ → Option ℕ) (at leaf : ℕ) (row : TreeRow) → IsWritten rows → slice_get rows at ≡ Some row
     → choice levels rows first (node_at at) ≡ Some leaf → WaitsUnder rows (node_at at) first leaf
 node_chosen zero rows first at leaf row written here is = absurd (none-some leaf is)
 node_chosen (suc levels) rows first at leaf row written here chosen =
@@ -400,7 +400,7 @@ node_chosen (suc levels) rows first at leaf row written here chosen =
         let before = counted_less rows at child.place (omega (arith, child.least)) in
         record { least = omega (arith, before, own.least); most = omega (arith, within, own.most); waits = own.waits }
 
-row_at : (rows : List TreeRow) (at : ℕ) → at < length rows → (row : TreeRow) × (slice_get rows at ≡ Some row)
+pub row_at : (rows : List TreeRow) (at : ℕ) → at < length rows → (row : TreeRow) × (slice_get rows at ≡ Some row)
 row_at [] at within = absurd (omega (arith, within))
 row_at (row ∷ rows) zero within = (row, refl)
 row_at (row ∷ rows) (suc at) within = row_at rows at (omega (arith, within))

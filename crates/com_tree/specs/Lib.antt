@@ -5,3 +5,7 @@ pub mod Faults
 pub mod Refusals
 pub mod Choosing
 pub mod Siblings
+pub mod inner
+pub mod CachedHeads
+pub mod UnderNodes
+pub mod Shapes

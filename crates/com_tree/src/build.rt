@@ -61,7 +61,7 @@ impl Tree {
             return Err(TreeError::Refused { row, fault });
         }
         let rows = Vec::from_slice(alloc, rows)?;
-        Ok(Tree::of_rows(Rows::of_vec(rows)))
+        Ok(Tree::of_rows(alloc, Rows::of_vec(rows))?)
     }
 }
 

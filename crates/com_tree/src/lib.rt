@@ -23,11 +23,16 @@
 #![tactic(auto)]
 
 mod build;
+mod counts;
+mod heads;
+mod index;
 mod laws;
 pub mod limits;
 mod search;
 mod tree;
 
 pub use build::{TreeError, TreeFault, is_outline};
+pub use counts::Counts;
+pub use heads::Heads;
 pub use laws::a_node_chooses_where_a_message_waits;
 pub use tree::{Choose, Leaf, MAX_DEPTH, MAX_LEAVES, Node, Tree, TreeRow};

@@ -51,10 +51,8 @@ impl Tree {
         ensures order { result.0 ≤ result.1 }
         ensures within { result.1 ≤ leaf_count self.now }
     {
-        let rows = self.rows();
-        let at = node.row as usize;
-        let first = count_leaves(&rows[..at]);
-        (first, first + count_leaves(branch(rows, at)))
+        let place = self.places()[node.row as usize];
+        (place.first, place.past)
     }
 
     /// The node with a path: None exactly where there is none.
@@ -140,7 +138,7 @@ fn choice(levels: u32, rows: &[TreeRow], heads: &[Option<u64>], at: usize) -> Op
 }
 
 /// The leaf itself, where a message waits on it.
-fn leaf_with_head(heads: &[Option<u64>], leaf: u32) -> Option<u32>
+pub(crate) fn leaf_with_head(heads: &[Option<u64>], leaf: u32) -> Option<u32>
     ensures leaf { result ≡ option_map (λ arrival. leaf) (head_on heads.now leaf) }
     ensures within { IfSome result (λ leaf. leaf < length heads.now) }
 {
@@ -148,7 +146,7 @@ fn leaf_with_head(heads: &[Option<u64>], leaf: u32) -> Option<u32>
 }
 
 /// The choice of a node by that of one child and that of the children behind it.
-fn better(
+pub(crate) fn better(
     choose: Choose,
     heads: &[Option<u64>],
     first: Option<u32>,
@@ -199,7 +197,7 @@ fn path_of(names: &[Name]) -> NamePath
 }
 
 /// How many of the nodes are leaves.
-fn count_leaves(rows: &[TreeRow]) -> u32
+pub(crate) fn count_leaves(rows: &[TreeRow]) -> u32
     requires { leaf_count rows.now ≤ MAX_LEAVES }
     ensures { result ≡ leaf_count rows.now }
 {
@@ -215,7 +213,7 @@ fn count_tops(rows: &[TreeRow]) -> usize
 }
 
 /// A node and those below it.
-fn branch(rows: &[TreeRow], at: usize) -> &[TreeRow]
+pub(crate) fn branch(rows: &[TreeRow], at: usize) -> &[TreeRow]
     requires { at < length rows.now }
     ensures branch { result.now ≡ branch_of (drop at rows.now) }
     ensures within { at + length result.now ≤ length rows.now }

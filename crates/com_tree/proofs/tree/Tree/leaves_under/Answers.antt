@@ -1,23 +1,18 @@
-use Rattle.std.proofs.Common.{◌≤◌, ◌+◌, take, arith}
-use Rattle.com_tree.specs.Written.{leaf_count}
+use Rattle.std.proofs.Common.{◌≡◌, ◌<◌, ◌≤◌, ◌+◌, length, get_or, refl, arith}
+use Rattle.com_tree.specs.declared.index.Place.{Place}
+use Rattle.com_tree.specs.NextLeaf.{node_at}
+use Rattle.com_tree.specs.inner.Index.{IsPlace}
 use Rattle.com_tree.proofs.Branches.{leaves_of_branch}
 use Rattle.com_tree.proofs.tree.Tree.leaves_under.Goals as goal
 
--- the leaves under the node and those before are no more than 64
-few : (c : goal.After-branch-rows) → leaf_count (take c.args.node.row c.rows-rows.result.now) + leaf_count c.branch-rows.result.now ≤ 64
-few c =
-    let rows = c.args.self.now in
-    rw (c.branch-rows.ensures.branch, c.rows-rows.ensures.rows) (omega (arith, leaves_of_branch rows c.args.node.row, c.rows-rows.ensures.written.leaves))
-
-pub count_leaves-requires : goal.count_leaves-requires
-count_leaves-requires c = omega (arith, few c)
-
-pub overflow_add-result : goal.overflow_add-result
-overflow_add-result c = omega (arith, few c.before, c.count_leaves.ensures, c.count_leaves-first.ensures)
-
-pub returns-clause-within : goal.returns-clause-within
-returns-clause-within c =
-    let rows = c.args.self.now in
-    let all : leaf_count (take c.args.node.row c.rows-rows.result.now) + leaf_count c.branch-rows.result.now ≤ leaf_count rows =
-    rw (c.branch-rows.ensures.branch, c.rows-rows.ensures.rows) (leaves_of_branch rows c.args.node.row) in
-    omega (arith, all, c.count_leaves.ensures, c.count_leaves-first.ensures)
+pub returns : goal.returns
+returns c =
+    let tree = c.args.self.now in
+    let at = c.args.node.row in
+    let none : Place = record { first = 0; past = 0; below = 0; apart = 0 } in
+    let is : IsPlace tree at (get_or c.places.result.now at none) = c.places.ensures.places at none (omega (arith, c.requires, c.places.ensures.size)) in
+    record {
+      leaves = rw (is.first, is.past) refl;
+      order = omega (arith, is.first, is.past);
+      within = omega (arith, is.past, leaves_of_branch tree at);
+    }
