@@ -1,0 +1,5 @@
+pub mod Moments
+mod Gates
+mod Entries
+mod Unique
+mod Steps
