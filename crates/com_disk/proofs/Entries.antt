@@ -1,6 +1,6 @@
 -- From the bytes that a closed gate shuts to the entries that they stand for.
-use Rattle.std.proofs.Common.{Result, Ok, Err, OnOk, ◌≡◌, ℕ, ◌+◌, ◌-◌, ◌^◌, ◌<◌, ◌≤◌, List, [], ◌∷◌, ◌++◌, length, inl, inr, ⊎_elim, refl, sym, ◌∙◌, ap, subst, arith, append_assoc, append-nil, length-append}
-use Rattle.std.specs.List.{flat_map, sum_by}
+use Rattle.std.proofs.Common.{Result, Ok, Err, OnOk, ◌≡◌, ℕ, ◌+◌, ◌-◌, ◌≤◌, List, [], ◌∷◌, ◌++◌, length, inl, inr, ⊎_elim, refl, sym, ◌∙◌, ap, subst, arith, append_assoc, append-nil, length-append}
+use Rattle.std.specs.List.{sum_by}
 use Rattle.std.specs.Int.{to_be_bytes, w32}
 use Rattle.std.proofs.lemmas.List.Concat.{flat_map-append}
 use Rattle.std.proofs.lemmas.List.Sums.{sum_by-cons, sum_by_push}
@@ -8,8 +8,7 @@ use Rattle.com_events.specs.declared.entry.Entry.{Entry}
 use Rattle.com_journal.specs.Lines.{IsLine}
 use Rattle.com_journal.specs.Journals.{AreLines}
 use Rattle.com_journal.proofs.JournalLaws.{same_line, lines-append}
-use Rattle.com_disk.specs.Disks.{Only}
-use Rattle.com_disk.specs.Logs.{Log, IsAt, IsShut, IsLength, Stands, IsBeforeOrAfter, header, records, log_bytes, record_of}
+use Rattle.com_disk.specs.Logs.{Log, IsAt, IsShut, Stands, IsBeforeOrAfter, header, records, log_bytes, record_of}
 use Rattle.com_disk.specs.inner.Shut.{IsShutAt, IsShutOrLonger}
 
 -- entries have one list of lines

@@ -1,10 +1,10 @@
 -- What a crash leaves in each of the steps by which bytes go behind a closed gate.
-use Rattle.std.proofs.Common.{◌≡◌, ◌≢◌, ℕ, ◌+◌, List, [], ◌∷◌, ◌++◌, length, get_or, take, drop, inl, inr, refl, sym, ◌∙◌, ap, subst, arith, append_assoc, length-append, take-append-drop}
+use Rattle.std.proofs.Common.{◌≡◌, ◌≢◌, ℕ, ◌+◌, List, [], ◌∷◌, ◌++◌, length, get_or, take, drop, inl, inr, sym, ◌∙◌, ap, subst, arith, append_assoc, length-append, take-append-drop}
 use Rattle.std.proofs.lemmas.List.{take_at, drop_at, drop_more}
 use Rattle.std.proofs.lemmas.Bool.{cases_eq}
 use Rattle.com_disk.specs.Disks.{Holds, IsTorn, Follows, Only}
 use Rattle.com_disk.specs.Logs.{IsShut}
-use Rattle.com_disk.specs.inner.Shut.{IsShutAt, IsShutOrLonger}
+use Rattle.com_disk.specs.inner.Shut.{IsShutOrLonger}
 
 module _ (front : List ℕ) (at : ℕ) (place : length front ≡ at) (gate : ℕ) (rest : List ℕ) where
   split : front ++ gate ∷ rest ≡ (front ++ gate ∷ []) ++ rest
@@ -52,11 +52,11 @@ module _ (front : List ℕ) (at : ℕ) (place : length front ≡ at) (gate : ℕ
 pub any_gate : (front bare rest : List ℕ) (gate : ℕ) (c : List ℕ) → c ≡ front ++ gate ∷ ((bare ++ 0 ∷ []) ++ rest) → IsShutOrLonger front bare c
 any_gate front bare rest gate c is = elim (cases_eq gate 1) [
   | inl one ↦ inr (record {
-      gate = 0;
-      rest = rest;
-      closed = omega arith;
-      bytes = is ∙ ap (λ (g : ℕ). front ++ g ∷ ((bare ++ 0 ∷ []) ++ rest)) one ∙ ap (λ (l : List ℕ). front ++ 1 ∷ l) (append_assoc bare (0 ∷ []) rest) ∙ sym (append_assoc front (1 ∷ bare) (0 ∷ rest));
-    })
+    gate = 0;
+    rest = rest;
+    closed = omega arith;
+    bytes = is ∙ ap (λ (g : ℕ). front ++ g ∷ ((bare ++ 0 ∷ []) ++ rest)) one ∙ ap (λ (l : List ℕ). front ++ 1 ∷ l) (append_assoc bare (0 ∷ []) rest) ∙ sym (append_assoc front (1 ∷ bare) (0 ∷ rest));
+  })
   | inr other ↦ inl (record { gate = gate; rest = (bare ++ 0 ∷ []) ++ rest; closed = other; bytes = is })
 ]
 

@@ -1,13 +1,13 @@
 -- How a disk in memory goes on, call by call.
-use Rattle.std.proofs.Common.{◌≡◌, ◌⊎◌, ◌↔◌, inl, inr, ⊎_elim, ℕ, ◌+◌, ◌-◌, ◌^◌, ◌≤◌, ◌<◌, min, Bool, true, false, cond, Option, Some, None, List, [], ◌∷◌, ◌++◌, length, map, refl, sym, ◌∙◌, ap, subst, arith}
+use Rattle.std.proofs.Common.{◌≡◌, ◌⊎◌, inl, inr, ⊎_elim, ℕ, ◌+◌, ◌-◌, ◌^◌, ◌≤◌, ◌<◌, Bool, true, false, Option, Some, None, List, [], ◌∷◌, ◌++◌, map, refl, sym, ◌∙◌, ap, subst, arith}
 use Rattle.std.specs.Prelude.{nat_le, if◌then◌else◌}
 use Rattle.std.specs.List.{fold, AllByRecursion}
 use Rattle.std.specs.Option.{IfSome, option_or}
 use Rattle.std.proofs.lemmas.Bool.{le-leb, cases_lt}
 use Rattle.std.proofs.lemmas.Bool.Decides.{leb_tells}
 use Rattle.std.proofs.lemmas.List.Sums.{fold-append}
-use Rattle.com_disk.specs.Disks.{Elapses, IsTorn, Follows, Only}
-use Rattle.com_disk.specs.Memory.{Memory, State, Pending, put, place, is_made, is_by, is_lasting, after_write, state_at, state_of, content_of, IsImage, IsImageOf, HadImage, next_count, counted, fresh}
+use Rattle.com_disk.specs.Disks.{Elapses, IsTorn, Only}
+use Rattle.com_disk.specs.Memory.{Memory, State, put, place, is_made, is_by, is_lasting, after_write, state_at, state_of, content_of, IsImageOf, HadImage, next_count}
 use Rattle.com_disk.specs.inner.Still.{IsStill, HasWritten, HasSynced, IsKept, IsNumbered, all_put, synced_by}
 use Rattle.com_disk.specs.inner.MemoryLaws.{content_is_image}
 use Rattle.com_disk.specs.declared.written.Written.{Written}
@@ -57,16 +57,19 @@ elapses old new le few same = record {
     split : (t : ℕ) (c : List ℕ) (had : HadImage new t c) → (old.calls < had.0) ⊎ (had.0 ≤ old.calls) → HadImage old t c ⊎ IsImageOf (state_of new) c
     split t c had (inr early) = inl (had.0, had.1, early, subst (λ s. IsImageOf s c) (same had.0 early) had.3)
     split t c had (inl late) =
-      let now : had.0 ≡ new.calls = omega (arith, late, had.2, few) in
-      inr (subst (λ k. IsImageOf (state_at new.first new.writes k) c) now had.3)
+        let now : had.0 ≡ new.calls = omega (arith, late, had.2, few) in
+        inr (subst (λ k. IsImageOf (state_at new.first new.writes k) c) now had.3)
 
-pub still_counted : (m : Memory) (failed : Bool) (bytes : List ℕ) → m.calls ≤ 2 ^ 64 - 1 → IsKept m.first bytes m.writes m.calls → IsStill m (counted failed m)
-still_counted m failed bytes fits h =
-    let same : state_of (counted failed m) ≡ state_of m = state_later m.first m.writes m.calls (next_count m.calls) h.numbers (omega (arith, fits)) in
+pub still_to : (m new : Memory) (bytes : List ℕ) → m.calls ≤ 2 ^ 64 - 1 → IsKept m.first bytes m.writes m.calls → new.first ≡ m.first → new.writes ≡ m.writes → new.calls ≡ next_count m.calls → IsStill m new
+still_to m new bytes fits h first writes calls =
+    let at : (k : ℕ) → state_at new.first new.writes k ≡ state_at m.first m.writes k = λ k.
+    ap (λ (l : List ℕ). state_at l new.writes k) first ∙ ap (λ (l : List Written). state_at m.first l k) writes in
+    let same : state_of new ≡ state_of m =
+    at new.calls ∙ ap (λ (n : ℕ). state_at m.first m.writes n) calls ∙ state_later m.first m.writes m.calls (next_count m.calls) h.numbers (omega (arith, fits)) in
     record {
       content = ap content_of same;
       images = λ c. (λ now. subst (λ s. IsImageOf s c) same now, λ now. subst (λ s. IsImageOf s c) (sym same) now);
-      time = elapses m (counted failed m) (omega (arith, fits)) (omega arith) (λ k early. refl);
+      time = elapses m new (omega (arith, fits, calls)) (omega (arith, calls)) (λ k early. at k);
     }
 
 -- the fields after a call that changed nothing
@@ -145,13 +148,13 @@ pub has_written : (old new : Memory) (bytes added : List ℕ) (at : ℕ) (w : Wr
     → new.first ≡ old.first → new.writes ≡ old.writes ++ w ∷ [] → new.calls ≡ old.calls + 1 → new.faults ≡ old.faults → HasWritten at added old new
 has_written old new bytes added at w h is first writes calls faults =
     let same : state_of new ≡ state_at old.first (old.writes ++ w ∷ []) (old.calls + 1) =
-      ap (λ (l : List ℕ). state_at l new.writes new.calls) first ∙ ap (λ (l : List Written). state_at old.first l new.calls) writes ∙ ap (λ (n : ℕ). state_at old.first (old.writes ++ w ∷ []) n) calls in
+    ap (λ (l : List ℕ). state_at l new.writes new.calls) first ∙ ap (λ (l : List Written). state_at old.first l new.calls) writes ∙ ap (λ (n : ℕ). state_at old.first (old.writes ++ w ∷ []) n) calls in
     let pushed = same ∙ state_pushed old.first old.writes old.calls at added w is h.numbers in
     record {
       content = ap content_of pushed;
       images = λ c now. subst (λ s. IsImageOf s c) pushed now;
       time = elapses old new (omega (arith, calls)) (omega (arith, calls)) (λ k early.
-        ap (λ (l : List ℕ). state_at l new.writes k) first ∙ ap (λ (l : List Written). state_at old.first l k) writes ∙ state_early old.first old.writes old.calls at added w is h.numbers k early);
+          ap (λ (l : List ℕ). state_at l new.writes k) first ∙ ap (λ (l : List Written). state_at old.first l k) writes ∙ state_early old.first old.writes old.calls at added w is h.numbers k early);
       faults = faults;
     }
 
@@ -214,8 +217,8 @@ pub has_synced : (old new : Memory) (bytes : List ℕ) → IsKept old.first byte
 has_synced old new bytes h first writes calls faults =
     let all = numbered_later old.writes old.calls (old.calls + 1) h.numbers (omega arith) in
     let same : state_of new ≡ record { base = all_put old.first old.writes; pending = [] } =
-      ap (λ (l : List ℕ). state_at l new.writes new.calls) first ∙ ap (λ (l : List Written). state_at old.first l new.calls) writes ∙ ap (λ (n : ℕ). state_at old.first (map (synced_by (old.calls + 1)) old.writes) n) calls
-      ∙ lasting_all old.first old.writes (old.calls + 1) all in
+    ap (λ (l : List ℕ). state_at l new.writes new.calls) first ∙ ap (λ (l : List Written). state_at old.first l new.calls) writes ∙ ap (λ (n : ℕ). state_at old.first (map (synced_by (old.calls + 1)) old.writes) n) calls
+    ∙ lasting_all old.first old.writes (old.calls + 1) all in
     let was : all_put old.first old.writes ≡ content_of (state_of old) = sym h.replayed ∙ h.read in
     let only : Only (content_of (state_of old)) (IsImageOf (state_of new)) = λ c now. subst (λ s. IsImageOf s c) same now ∙ was in
     record {
@@ -223,6 +226,10 @@ has_synced old new bytes h first writes calls faults =
       durable = only;
       images = λ c now. subst (IsImageOf (state_of old)) (sym (only c now)) (content_is_image (state_of old));
       time = elapses old new (omega (arith, calls)) (omega (arith, calls)) (λ k early.
-        ap (λ (l : List ℕ). state_at l new.writes k) first ∙ ap (λ (l : List Written). state_at old.first l k) writes ∙ early_all (record { base = old.first; pending = [] }) old.writes (old.calls + 1) k (omega (arith, early)));
+          ap (λ (l : List ℕ). state_at l new.writes k) first ∙ ap (λ (l : List Written). state_at old.first l k) writes ∙ early_all (record { base = old.first; pending = [] }) old.writes (old.calls + 1) k (omega (arith, early)));
       faults = faults;
     }
+
+-- a write of which nothing was done
+pub untorn : (at n : ℕ) (c : List ℕ) → IsTorn at n c c
+untorn at n c = record { before = refl; after = refl; no_shorter = omega arith; no_longer = omega arith }

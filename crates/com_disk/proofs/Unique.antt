@@ -5,6 +5,7 @@ use Rattle.std.specs.Int.{to_be_bytes, from_be_bytes, w32}
 use Rattle.std.proofs.lemmas.List.{take_at, drop_at}
 use Rattle.std.proofs.lemmas.Nat.{from_be_bytes-to_be_bytes_4}
 use Rattle.com_events.specs.declared.entry.Entry.{Entry}
+use Rattle.com_events.specs.Calls.{HasText}
 use Rattle.com_journal.specs.Lines.{IsLine}
 use Rattle.com_journal.specs.Journals.{AreLines}
 use Rattle.com_journal.specs.Versions.{IsVersion}
@@ -25,8 +26,7 @@ record_split line other after rest short small e =
     let whole : size ++ (line ++ after) ≡ same ++ (other ++ rest) = sym (append_assoc size line after) ∙ e ∙ append_assoc same other rest in
     let digits : size ≡ same = sym (take_at size (line ++ after) 4 refl) ∙ ap (λ (l : List ℕ). take 4 l) whole ∙ take_at same (other ++ rest) 4 refl in
     let long : length line ≡ length other = sym (from_be_bytes-to_be_bytes_4 (length line) short) ∙ ap (λ (l : List ℕ). from_be_bytes w32 l) digits ∙ from_be_bytes-to_be_bytes_4 (length other) small in
-    let tails : line ++ after ≡ other ++ rest = sym (drop_at size (line ++ after) 4 refl) ∙ ap (λ (l : List ℕ). drop 4 l) whole ∙ drop_at same (other ++ rest) 4 refl in
-    (
+    let tails : line ++ after ≡ other ++ rest = sym (drop_at size (line ++ after) 4 refl) ∙ ap (λ (l : List ℕ). drop 4 l) whole ∙ drop_at same (other ++ rest) 4 refl in (
       sym (take_at line after (length line) refl) ∙ ap (λ (l : List ℕ). take (length line) l) tails ∙ take_at other rest (length line) (sym long),
       sym (drop_at line after (length line) refl) ∙ ap (λ (l : List ℕ). drop (length line) l) tails ∙ drop_at other rest (length line) (sym long),
     )
@@ -52,17 +52,24 @@ fronts (line ∷ lines) [] rest left h k e = inr (record { more = line ∷ lines
 fronts (line ∷ lines) (other ∷ others) rest left h k e =
     let behind : (record_of line ++ records lines) ++ rest ≡ (record_of other ++ records others) ++ left = ap (λ (l : List ℕ). drop 1 l) e in
     let parts = record_split line other (records lines ++ rest) (records others ++ left) h.0 k.0
-      (sym (append_assoc (record_of line) (records lines) rest) ∙ behind ∙ append_assoc (record_of other) (records others) left) in
+    (sym (append_assoc (record_of line) (records lines) rest) ∙ behind ∙ append_assoc (record_of other) (records others) left) in
     ⊎_elim
-      (λ l. inl (next_longer line other lines others rest left parts.0 l))
-      (λ l. inr (next_longer other line others lines left rest (sym parts.0) l))
-      (fronts lines others rest left h.1 k.1 parts.1)
+    (λ l. inl (next_longer line other lines others rest left parts.0 l))
+    (λ l. inr (next_longer other line others lines left rest (sym parts.0) l))
+    (fronts lines others rest left h.1 k.1 parts.1)
 
 pub lines_short : (entries : List Entry) (lines : List (List ℕ)) → AreLines entries lines → AllByRecursion IsShort lines
 lines_short [] [] h = tt
 lines_short (entry ∷ entries) (line ∷ lines) h = (short_line entry line h.0, lines_short entries lines h.1)
 lines_short [] (line ∷ lines) h = absurd h
 lines_short (entry ∷ entries) [] h = absurd h
+
+-- what has lines has texts
+pub have_texts : (entries : List Entry) (lines : List (List ℕ)) → AreLines entries lines → AllByRecursion HasText entries
+have_texts [] [] h = tt
+have_texts (entry ∷ entries) (line ∷ lines) h = (h.0.has_text, have_texts entries lines h.1)
+have_texts [] (line ∷ lines) h = absurd h
+have_texts (entry ∷ entries) [] h = absurd h
 
 -- each of the lines is of an entry
 line_of : (entries : List Entry) (front : List (List ℕ)) (line : List ℕ) (more : List (List ℕ)) → AreLines entries (front ++ line ∷ more) → (entry : Entry) × IsLine entry line
@@ -110,11 +117,10 @@ same_more image version other entries others h k l =
 -- bytes stand for one list of entries
 pub same_log : (image : List ℕ) (version other : ℕ) (entries others : List Entry) → Stands image version entries → Stands image other others → (version ≡ other) × (entries ≡ others)
 same_log image version other entries others h k =
-    let e = behind_header version other h.lines k.lines _ _ (sym h.shut.bytes ∙ k.shut.bytes) in
-    (
+    let e = behind_header version other h.lines k.lines _ _ (sym h.shut.bytes ∙ k.shut.bytes) in (
       h.known ∙ sym k.known,
       ⊎_elim (λ l. same_more image version other entries others h k l) (λ l. sym (same_more image other version others entries k h l))
-        (fronts h.lines k.lines (h.shut.gate ∷ h.shut.rest) (k.shut.gate ∷ k.shut.rest) (lines_short entries h.lines h.are_lines) (lines_short others k.lines k.are_lines) e),
+          (fronts h.lines k.lines (h.shut.gate ∷ h.shut.rest) (k.shut.gate ∷ k.shut.rest) (lines_short entries h.lines h.are_lines) (lines_short others k.lines k.are_lines) e),
     )
 
 -- a record where there is none
@@ -136,9 +142,9 @@ no_bad_record : (image : List ℕ) (version at : ℕ) (entries : List Entry) →
 no_bad_record image version at entries h b =
     let e = behind_header version b.version h.lines b.lines _ _ (sym h.shut.bytes ∙ b.split) in
     ⊎_elim
-      (λ l. h.shut.closed (open_first l.more h.shut.gate h.shut.rest b.rest l.rest_is))
-      (λ l. shorter_log image version at entries h b l)
-      (fronts h.lines b.lines (h.shut.gate ∷ h.shut.rest) (1 ∷ b.rest) (lines_short entries h.lines h.are_lines) (lines_short b.entries b.lines b.are_lines) e)
+    (λ l. h.shut.closed (open_first l.more h.shut.gate h.shut.rest b.rest l.rest_is))
+    (λ l. shorter_log image version at entries h b l)
+    (fronts h.lines b.lines (h.shut.gate ∷ h.shut.rest) (1 ∷ b.rest) (lines_short entries h.lines h.are_lines) (lines_short b.entries b.lines b.are_lines) e)
 
 split_first : (bytes : List ℕ) → 1 ≤ length bytes → (first : ℕ) × (rest : List ℕ) × (bytes ≡ first ∷ rest)
 split_first [] some = absurd (omega (arith, some))
@@ -165,7 +171,7 @@ one_bad : (image : List ℕ) (at other : ℕ) → IsBadRecord image at → IsBad
 one_bad image at other a b =
     let e = behind_header a.version b.version a.lines b.lines _ _ (sym a.split ∙ b.split) in
     ⊎_elim (λ l. same_bad image at other a b l) (λ l. sym (same_bad image other at b a l))
-      (fronts a.lines b.lines (1 ∷ a.rest) (1 ∷ b.rest) (lines_short a.entries a.lines a.are_lines) (lines_short b.entries b.lines b.are_lines) e)
+    (fronts a.lines b.lines (1 ∷ a.rest) (1 ∷ b.rest) (lines_short a.entries a.lines a.are_lines) (lines_short b.entries b.lines b.are_lines) e)
 
 -- bytes are no log because of one place
 pub one_place : (image : List ℕ) (at other : ℕ) → IsNoLog image at → IsNoLog image other → at ≡ other

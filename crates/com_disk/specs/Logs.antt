@@ -1,9 +1,8 @@
 -- What the bytes of a disk stand for, and what is known of a log on a disk.
-use Rattle.std.specs.Prelude.{◌≡◌, ◌≢◌, ◌⊎◌, ℕ, ◌+◌, ◌≤◌, List, [], ◌∷◌, ◌++◌, length, codes, Bool}
+use Rattle.std.specs.Prelude.{◌≡◌, ◌≢◌, ◌⊎◌, ℕ, ◌+◌, List, [], ◌∷◌, ◌++◌, length, codes, Bool}
 use Rattle.std.specs.List.{flat_map, sum_by}
 use Rattle.std.specs.Int.{to_be_bytes, w32}
 use Rattle.com_events.specs.declared.entry.Entry.{Entry}
-use Rattle.com_journal.specs.Lines.{IsLine}
 use Rattle.com_journal.specs.Journals.{AreLines}
 use Rattle.com_journal.specs.Versions.{IsVersion}
 use Rattle.com_disk.specs.Disks.{Only}

@@ -69,11 +69,11 @@ pub fn append<D: Disk>(
     ensures any_moment { D.told → (entries : List AnEntry)
         → IsAt D.content D.images log.old disk.old entries
         → LeavesOnly D.moment D.since disk.old disk.new
-            (IsBeforeOrAfter log.old.version entries entry.now) }
+        (IsBeforeOrAfter log.old.version entries entry.now) }
     ensures no_moment { IsErrOf result DiskFault.Memory → D.told → (entries : List AnEntry)
         → IsAt D.content D.images log.old disk.old entries
         → LeavesOnly D.moment D.since disk.old disk.new
-            (λ c. Stands c log.old.version entries) }
+        (λ c. Stands c log.old.version entries) }
 
     // why it fails
     ensures failed { IsErrOf result DiskFault.Failed
@@ -101,7 +101,7 @@ fn append_line<D: Disk>(
     ensures at { OnOk result (D.told → (front : List ℕ)
         → IsShutAt D.content D.images (log.old.bytes - 1) disk.old front
         → IsShutAt D.content D.images (log.new.bytes - 1) disk.new
-            (front ++ 1 ∷ record_of line.now)) }
+        (front ++ 1 ∷ record_of line.now)) }
     ensures still { IsErrOf result DiskFault.Memory → D.told → (front : List ℕ)
         → IsShutAt D.content D.images (log.old.bytes - 1) disk.old front
         → IsShutAt D.content D.images (log.old.bytes - 1) disk.new front }
@@ -116,7 +116,7 @@ fn append_line<D: Disk>(
     ensures any_moment { D.told → (front : List ℕ)
         → IsShutAt D.content D.images (log.old.bytes - 1) disk.old front
         → LeavesOnly D.moment D.since disk.old disk.new
-            (IsShutOrLonger front (record_of line.now)) }
+        (IsShutOrLonger front (record_of line.now)) }
     ensures no_moment { IsErrOf result DiskFault.Memory → D.told → (front : List ℕ)
         → IsShutAt D.content D.images (log.old.bytes - 1) disk.old front
         → LeavesOnly D.moment D.since disk.old disk.new (IsShut front) }

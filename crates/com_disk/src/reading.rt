@@ -62,10 +62,7 @@ impl From<AllocError> for RecoverFault {
 }
 
 /// Returns the log that the disk holds, and its entries. It begins with a sync, and adds no image.
-pub fn recover<D: Disk>(
-    alloc: Global,
-    disk: &mut D,
-) -> Result<(DiskLog, Rows<Entry>), RecoverFault>
+pub fn recover<D: Disk>(alloc: Global, disk: &mut D) -> Result<(DiskLog, Rows<Entry>), RecoverFault>
     // what is recovered
     ensures at { IfOk result (λ found. D.told
         → IsAt D.content D.images found.0 disk.new found.1) }
@@ -84,7 +81,7 @@ pub fn recover<D: Disk>(
     ensures each_log { D.told → (version : ℕ) (entries : List AnEntry)
         → Stands (D.content disk.old) version entries
         → MatchResult result (λ found. (found.0.version ≡ version) × (found.1 ≡ entries))
-            IsOutside }
+        IsOutside }
     ensures each_empty { D.told → D.content disk.old ≡ []
         → MatchResult result (λ _. ⊥) (IsFaultOr RecoverFault.Empty) }
     ensures each_fault { D.told → (at : ℕ) → 1 ≤ length (D.content disk.old)
@@ -100,10 +97,7 @@ pub fn recover<D: Disk>(
 }
 
 /// Returns the log that the disk holds, and its entries.
-fn recover_log<D: Disk>(
-    alloc: Global,
-    disk: &mut D,
-) -> Result<(DiskLog, Rows<Entry>), RecoverFault>
+fn recover_log<D: Disk>(alloc: Global, disk: &mut D) -> Result<(DiskLog, Rows<Entry>), RecoverFault>
     ensures at { IfOk result (λ found. D.told
         → IsAt D.content D.images found.0 disk.new found.1) }
     ensures texts { IfOk result (λ found. All HasText found.1) }
@@ -183,9 +177,7 @@ fn entries_in(alloc: Global, bytes: &[u8]) -> Result<Found, RecoverFault>
     while let Some(record) = after_open_gate(rest) {
         let (entry, after) = next_entry(alloc, version, record, end)?;
         end += (rest.len() - after.len()) as u64;
-        entries
-            .push(entry)
-            .map_err(|(_, _)| RecoverFault::Memory)?;
+        entries.push(entry).map_err(|(_, _)| RecoverFault::Memory)?;
         rest = after;
     }
     Ok(Found {

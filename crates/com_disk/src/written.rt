@@ -30,6 +30,13 @@ impl Written {
         }
     }
 
+    /// Makes it last by this sync, if it does not last yet.
+    fn sync_by(&mut self, sync: u64)
+        ensures { self.new ≡ synced_by sync self.old }
+    {
+        self.synced = self.synced.or(Some(sync));
+    }
+
     /// Returns whether it was made among this many calls, and does not last yet.
     fn is_pending(&self, calls: u64) -> bool
         ensures { result ≡ (is_made calls self.now && not (is_lasting calls self.now)) }
@@ -68,12 +75,7 @@ fn ones(alloc: Global, bytes: &[u8]) -> Result<Vec<u8>, AllocError>
 }
 
 /// Returns what a crash leaves of bytes with a write that is pending.
-fn torn_bytes(
-    alloc: Global,
-    old: &[u8],
-    write: &Written,
-    torn: Torn,
-) -> Result<Vec<u8>, AllocError>
+fn torn_bytes(alloc: Global, old: &[u8], write: &Written, torn: Torn) -> Result<Vec<u8>, AllocError>
     ensures { IfOk result (λ new. new.items
         ≡ torn_put torn old.now write.now.at write.now.bytes.items) }
 {
@@ -125,13 +127,11 @@ pub(crate) fn crash_bytes(
     Ok(image)
 }
 
-/// Has each write that does not last be made last by this sync.
+/// Makes each write last by this sync, if it does not last yet.
 pub(crate) fn sync_all(writes: &mut [Written], sync: u64)
     ensures { writes.new ≡ map (synced_by sync) writes.old }
 {
     for write in writes.iter_mut() {
-        if write.synced.is_none() {
-            write.synced = Some(sync);
-        }
+        write.sync_by(sync);
     }
 }

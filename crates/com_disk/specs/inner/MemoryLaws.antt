@@ -1,6 +1,6 @@
 -- Laws of the images of a disk in memory.
 use Rattle.std.specs.Prelude.{◌≡◌, ℕ, ◌+◌, ◌-◌, ◌≤◌, min, List, [], ◌∷◌, ◌++◌, length, take, drop, map}
-use Rattle.std.proofs.Common.{refl, sym, ap, subst, ◌∙◌, arith, le_refl, le_antisymm, length-append, length-take, length-drop, append_assoc}
+use Rattle.std.proofs.Common.{refl, ap, subst, ◌∙◌, arith, le_refl, le_antisymm, length-append, length-take, length-drop, append_assoc}
 use Rattle.std.proofs.lemmas.List.{take_at, drop_at, length-map}
 use Rattle.com_disk.specs.Disks.{IsTorn}
 use Rattle.com_disk.specs.Memory.{Memory, State, Pending, put, place, written, content_of, image_of, IsImage, IsImageOf, HadImage, state_at, state_of}
@@ -50,12 +50,11 @@ module _ (base : List ℕ) where
   ones_is_one [] = refl
   ones_is_one (write ∷ older) =
       let ones = written (map (λ _. 1)) base older in
-      let now = written (λ bytes. bytes) base older in
-      (
+      let now = written (λ bytes. bytes) base older in (
         ones,
         ones_is_one older,
         subst (λ n. IsTorn (place now write.0) n ones (put ones (place ones write.0) (map (λ _. 1) write.1))) (length-map {A = ℕ} {B = ℕ} write.1 (λ _. 1))
-          (subst (λ p. IsTorn p (length {A = ℕ} (map (λ _. 1) write.1)) ones (put ones (place ones write.0) (map (λ _. 1) write.1))) (ap (min write.0) (same_length older)) (put_torn ones (map (λ _. 1) write.1) (place ones write.0) (omega arith))),
+            (subst (λ p. IsTorn p (length {A = ℕ} (map (λ _. 1) write.1)) ones (put ones (place ones write.0) (map (λ _. 1) write.1))) (ap (min write.0) (same_length older)) (put_torn ones (map (λ _. 1) write.1) (place ones write.0) (omega arith))),
       )
 
 -- what a crash leaves is one of the images

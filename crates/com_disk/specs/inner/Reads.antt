@@ -1,11 +1,10 @@
 -- What the reader of a log has read, for the functions that read one.
-use Rattle.std.specs.Prelude.{◌≡◌, ◌⊎◌, ℕ, ◌≤◌, ◌<◌, ◌^◌, List, [], ◌∷◌, ◌++◌, length}
+use Rattle.std.specs.Prelude.{◌≡◌, ℕ, ◌≤◌, ◌<◌, ◌^◌, List, ◌++◌, length}
 use Rattle.com_events.specs.declared.entry.Entry.{Entry}
 use Rattle.com_journal.specs.Lines.{IsLine}
 use Rattle.com_journal.specs.Journals.{AreLines}
 use Rattle.com_journal.specs.Versions.{IsVersion}
-use Rattle.com_disk.specs.Logs.{record_of, log_bytes, IsShut}
-use Rattle.com_disk.specs.Refusals.{IsNoLog}
+use Rattle.com_disk.specs.Logs.{record_of, log_bytes}
 use Rattle.com_disk.specs.declared.reading.RecoverFault.{RecoverFault}
 use Rattle.com_disk.specs.declared.reading.RecoverFault.TheVariants.{Failed, Empty, NotJournal, Memory}
 

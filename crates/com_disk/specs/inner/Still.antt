@@ -1,9 +1,9 @@
 -- What a call leaves of a disk in memory, for the functions that make one.
-use Rattle.std.specs.Prelude.{◌≡◌, ◌↔◌, ℕ, ◌+◌, ◌≤◌, List, ◌∷◌, [], length, map, Some, IfSome}
+use Rattle.std.specs.Prelude.{◌≡◌, ◌↔◌, ℕ, ◌≤◌, List, [], length, map, Some, IfSome}
 use Rattle.std.specs.Option.{option_or}
 use Rattle.std.specs.List.{fold, AllByRecursion}
 use Rattle.com_disk.specs.Disks.{Elapses, Follows, IsTorn, Only}
-use Rattle.com_disk.specs.Memory.{Memory, State, IsImageOf, HadImage, content_of, state_of, put, place}
+use Rattle.com_disk.specs.Memory.{Memory, IsImageOf, HadImage, content_of, state_of, put, place}
 use Rattle.com_disk.specs.declared.written.Written.{Written}
 use Rattle.com_disk.specs.declared.torn.Torn.{Torn}
 use Rattle.com_disk.specs.declared.torn.Torn.TheVariants.{Old, New, Ones}

@@ -1,4 +1,4 @@
-use Rattle.std.proofs.Common.{rules, List, ℕ, subst, sym}
+use Rattle.std.proofs.Common.{rules, subst, sym}
 use Rattle.com_journal.specs.Lines.{IsLine}
 use Rattle.com_journal.proofs.LineLengths.{short_line}
 use Rattle.com_disk.specs.Logs.{IsAt, IsShut, IsBeforeOrAfter, Stands, log_bytes, record_of}
@@ -23,9 +23,9 @@ returns-clause-at g c =
     let entry = c.args.entry.now in
     let is_line : IsLine entry c.as_slice.result.now = search rules in
     both_ok _ _ _ c.append_line.result c.append_line.ensures.at c.append_line.ensures.bytes (λ at longer t entries h.
-      let front = log_bytes log.version h.stands.lines in
-      more_at content images log entries c.args.disk.now h c.append_line.new.disk entry c.as_slice.result.now c.append_line.new.log _ is_line
-        (at t front (shut_at content images log entries c.args.disk.now h)) c.append_line.ensures.version longer)
+    let front = log_bytes log.version h.stands.lines in
+    more_at content images log entries c.args.disk.now h c.append_line.new.disk entry c.as_slice.result.now c.append_line.new.log _ is_line
+    (at t front (shut_at content images log entries c.args.disk.now h)) c.append_line.ensures.version longer)
 
 pub returns-clause-still : goal.returns-clause-still
 returns-clause-still g c failed t entries h =
@@ -46,7 +46,7 @@ returns-clause-any_moment g c t entries h =
     let front = log_bytes log.version h.stands.lines in
     let any = c.append_line.ensures.any_moment t front (shut_at disk.content disk.images log entries c.args.disk.now h) in
     leaves_more disk.moment disk.since c.args.disk.now c.append_line.new.disk (IsShutOrLonger front (record_of line)) (IsBeforeOrAfter log.version entries entry)
-      (before_or_after (disk.content c.args.disk.now) log.version entries h.stands entry line is_line) any
+    (before_or_after (disk.content c.args.disk.now) log.version entries h.stands entry line is_line) any
 
 pub returns-clause-no_moment : goal.returns-clause-no_moment
 returns-clause-no_moment g c failed t entries h =
@@ -55,4 +55,4 @@ returns-clause-no_moment g c failed t entries h =
     let front = log_bytes log.version h.stands.lines in
     let any = c.append_line.ensures.no_moment failed t front (shut_at disk.content disk.images log entries c.args.disk.now h) in
     leaves_more disk.moment disk.since c.args.disk.now c.append_line.new.disk (IsShut front) (λ f. Stands f log.version entries)
-      (stands (disk.content c.args.disk.now) log.version entries h.stands) any
+    (stands (disk.content c.args.disk.now) log.version entries h.stands) any

@@ -1,4 +1,4 @@
-use Rattle.std.proofs.Common.{rules, ◌≡◌, List, ℕ, length, ◌++◌, ◌∷◌, ◌-◌, [], ap, subst, arith}
+use Rattle.std.proofs.Common.{rules, ◌≡◌, ◌++◌, ◌∷◌, ◌-◌, [], subst, arith}
 use Rattle.com_disk.specs.Logs.{record_of}
 use Rattle.com_disk.specs.inner.Shut.{IsShutAt}
 use Rattle.com_disk.proofs.log.append_line.Goals as goal

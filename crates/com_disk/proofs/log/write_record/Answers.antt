@@ -1,5 +1,5 @@
-use Rattle.std.proofs.Common.{rules, ◌≡◌, List, ℕ, length, ◌++◌, ◌∷◌, ◌+◌, [], take, drop, inl, inr, ◌∙◌, sym, ap, subst, arith}
-use Rattle.com_disk.specs.Disks.{Only, Holds, IsTorn, Follows}
+use Rattle.std.proofs.Common.{rules, ◌≡◌, List, ℕ, length, ◌++◌, ◌∷◌, [], take, drop, inl, ◌∙◌, sym, ap, subst}
+use Rattle.com_disk.specs.Disks.{Holds, IsTorn, Follows}
 use Rattle.com_disk.specs.Logs.{IsShut}
 use Rattle.com_disk.specs.inner.Shut.{IsShutOrLonger}
 use Rattle.com_disk.proofs.Moments.{started, goes_on}
@@ -51,11 +51,11 @@ returns-in_err-write_at-2-clause-any_moment g c t front bare is s =
     let gated = c.args.gated.now in
     let rear = c.split_at.result.1.now in
     let opening : c.split_at.result.0.now ≡ 1 ∷ [] =
-      let front_is : c.split_at.result.0.now ≡ take 1 gated = search rules in
-      front_is ∙ ap (λ (l : List ℕ). take 1 l) is in
+    let front_is : c.split_at.result.0.now ≡ take 1 gated = search rules in
+    front_is ∙ ap (λ (l : List ℕ). take 1 l) is in
     let rear_is : rear ≡ bare ++ 0 ∷ [] =
-      let rest_is : rear ≡ drop 1 gated = search rules in
-      rest_is ∙ ap (λ (l : List ℕ). drop 1 l) is in
+    let rest_is : rear ≡ drop 1 gated = search rules in
+    rest_is ∙ ap (λ (l : List ℕ). drop 1 l) is in
     let is_staged = staged front at s.place bare rear (content disk) (content c.write_at.new.self) rear_is s.shut (c.in_ok-write_at.ensures.written t) in
     let torn = subst (λ (l : List ℕ). Follows (IsTorn at (length l)) (images c.sync.new.self) (images c.write_at-2.new.self)) opening (c.write_at-2.ensures.images t) in
     let second = gate_crash front at s.place bare (content c.write_at.new.self) (images c.sync.new.self) (images c.write_at-2.new.self) is_staged (c.in_ok-sync.ensures.durable t) torn in
@@ -78,11 +78,11 @@ returns-in_err-sync-2-clause-any_moment g c t front bare is s =
     let gated = c.args.gated.now in
     let rear = c.split_at.result.1.now in
     let opening : c.split_at.result.0.now ≡ 1 ∷ [] =
-      let front_is : c.split_at.result.0.now ≡ take 1 gated = search rules in
-      front_is ∙ ap (λ (l : List ℕ). take 1 l) is in
+    let front_is : c.split_at.result.0.now ≡ take 1 gated = search rules in
+    front_is ∙ ap (λ (l : List ℕ). take 1 l) is in
     let rear_is : rear ≡ bare ++ 0 ∷ [] =
-      let rest_is : rear ≡ drop 1 gated = search rules in
-      rest_is ∙ ap (λ (l : List ℕ). drop 1 l) is in
+    let rest_is : rear ≡ drop 1 gated = search rules in
+    rest_is ∙ ap (λ (l : List ℕ). drop 1 l) is in
     let is_staged = staged front at s.place bare rear (content disk) (content c.write_at.new.self) rear_is s.shut (c.in_ok-write_at.ensures.written t) in
     let torn = subst (λ (l : List ℕ). Follows (IsTorn at (length l)) (images c.sync.new.self) (images c.write_at-2.new.self)) opening (c.write_at-2.ensures.images t) in
     let second = gate_crash front at s.place bare (content c.write_at.new.self) (images c.sync.new.self) (images c.write_at-2.new.self) is_staged (c.in_ok-sync.ensures.durable t) torn in
@@ -106,11 +106,11 @@ returns-clause-any_moment g c t front bare is s =
     let gated = c.args.gated.now in
     let rear = c.split_at.result.1.now in
     let opening : c.split_at.result.0.now ≡ 1 ∷ [] =
-      let front_is : c.split_at.result.0.now ≡ take 1 gated = search rules in
-      front_is ∙ ap (λ (l : List ℕ). take 1 l) is in
+    let front_is : c.split_at.result.0.now ≡ take 1 gated = search rules in
+    front_is ∙ ap (λ (l : List ℕ). take 1 l) is in
     let rear_is : rear ≡ bare ++ 0 ∷ [] =
-      let rest_is : rear ≡ drop 1 gated = search rules in
-      rest_is ∙ ap (λ (l : List ℕ). drop 1 l) is in
+    let rest_is : rear ≡ drop 1 gated = search rules in
+    rest_is ∙ ap (λ (l : List ℕ). drop 1 l) is in
     let is_staged = staged front at s.place bare rear (content disk) (content c.write_at.new.self) rear_is s.shut (c.in_ok-write_at.ensures.written t) in
     let torn = subst (λ (l : List ℕ). Follows (IsTorn at (length l)) (images c.sync.new.self) (images c.write_at-2.new.self)) opening (c.write_at-2.ensures.images t) in
     let second = gate_crash front at s.place bare (content c.write_at.new.self) (images c.sync.new.self) (images c.write_at-2.new.self) is_staged (c.in_ok-sync.ensures.durable t) torn in
@@ -162,11 +162,11 @@ returns-clause-opened g c t front bare is s =
     let gated = c.args.gated.now in
     let rear = c.split_at.result.1.now in
     let opening : c.split_at.result.0.now ≡ 1 ∷ [] =
-      let front_is : c.split_at.result.0.now ≡ take 1 gated = search rules in
-      front_is ∙ ap (λ (l : List ℕ). take 1 l) is in
+    let front_is : c.split_at.result.0.now ≡ take 1 gated = search rules in
+    front_is ∙ ap (λ (l : List ℕ). take 1 l) is in
     let rear_is : rear ≡ bare ++ 0 ∷ [] =
-      let rest_is : rear ≡ drop 1 gated = search rules in
-      rest_is ∙ ap (λ (l : List ℕ). drop 1 l) is in
+    let rest_is : rear ≡ drop 1 gated = search rules in
+    rest_is ∙ ap (λ (l : List ℕ). drop 1 l) is in
     let is_staged = staged front at s.place bare rear (content disk) (content c.write_at.new.self) rear_is s.shut (c.in_ok-write_at.ensures.written t) in
     let written = subst (λ (l : List ℕ). Holds (content c.sync.new.self) at l (content c.write_at-2.new.self)) opening (c.in_ok-write_at-2.ensures.written t) in
     let holds = subst (λ f. Holds f at (1 ∷ []) (content c.write_at-2.new.self)) (c.sync.ensures.content t) written in
