@@ -9,6 +9,7 @@ mod CallLaws
 mod ReplyLaws
 pub mod LineLaws
 mod Plain
+pub mod LineLengths
 pub mod JournalLaws
 mod WorkedLines
 pub mod FirstLines

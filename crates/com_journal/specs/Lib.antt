@@ -8,3 +8,4 @@ pub mod Reading
 pub mod Writing
 pub mod Faults
 pub mod Loops
+pub mod Versions

@@ -1,5 +1,5 @@
 //! Laws of journals. A function here does nothing; its contract is the law.
-ghost use Rattle.std.specs.Prelude.{◌≡◌, ◌∷◌, ◌++◌, [], ℕ, List};
+ghost use Rattle.std.specs.Prelude.{◌≡◌, ◌∷◌, ◌++◌, ◌<◌, ◌^◌, [], ℕ, List, length};
 ghost use Rattle.com_events.specs.declared.call.Party.{Party};
 ghost use Rattle.com_events.specs.declared.call.Call.{Call};
 ghost use Rattle.com_events.specs.declared.entry.Entry.{Entry};
@@ -24,6 +24,11 @@ pub fn an_entry_has_one_line()
 pub fn a_line_is_of_one_entry()
     ensures { (entry other : Entry) (line : List ℕ)
         → IsLine entry line → IsLine other line → entry ≡ other }
+{}
+
+/// A line's length can be written in four bytes.
+pub fn a_line_is_short()
+    ensures { (entry : Entry) (line : List ℕ) → IsLine entry line → length line < 2 ^ 32 }
 {}
 
 /// The text of a call is of one party and one call.

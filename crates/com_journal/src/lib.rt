@@ -35,6 +35,7 @@ mod receive;
 mod reply;
 mod script;
 mod send;
+mod single;
 mod split;
 mod switch;
 mod words;
@@ -42,11 +43,12 @@ mod words;
 pub use fault::{JournalError, JournalFault, JournalKind};
 pub use journal::{read, write, write_entry};
 pub use laws::{
-    a_journal_has_no_fault, a_journal_is_of_one_history, a_line_is_of_one_entry,
+    a_journal_has_no_fault, a_journal_is_of_one_history, a_line_is_of_one_entry, a_line_is_short,
     a_text_is_of_one_call, an_entry_has_one_line, each_entry_has_a_line, no_line_begins_another,
     one_fault_is_told,
 };
 pub use reasons::{write_finish, write_stop};
 pub use script::{call_line, read_calls, script_lines};
+pub use single::{entry_line, read_line};
 pub use split::{Lines, TextLine};
 pub use words::{end_word, frame_word};

@@ -1,0 +1,5 @@
+pub mod Disks
+pub mod Logs
+pub mod Refusals
+pub mod Memory
+pub mod inner

@@ -1,0 +1,4 @@
+pub mod Shut
+pub mod MemoryLaws
+pub mod Still
+pub mod Reads
