@@ -133,7 +133,8 @@ impl InArea {
 
     /// Returns the characters of one field.
     pub fn get(&self, field: InField) -> &[u8]
-        ensures { result.now ≡ in_field field self.now }
+        ensures characters { result.now ≡ in_field field self.now }
+        ensures width { length result.now ≡ width_of field }
     {
         let start = field.start();
         &self.bytes[start..start + field.width()]

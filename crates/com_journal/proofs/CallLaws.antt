@@ -37,9 +37,9 @@ use Rattle.com_msg.specs.declared.sending.TheConstants.{MAX_ITEM_LENGTH, MAX_LIN
 use Rattle.com_msg.specs.declared.message.TheConstants.{MAX_SEGMENTS, MAX_SEGMENT_LENGTH, MAX_MESSAGE_LENGTH}
 use Rattle.com_events.specs.declared.call.TheConstants.{MAX_KEY_LENGTH}
 use Rattle.com_journal.specs.Words.{kind_word, wait_word, switch_word, input_word, end_word, stop_word, frame_word}
-use Rattle.com_journal.specs.Choices.{kind_of, wait_of, switch_of, input_of, end_of, stop_of, plain_end_of, frame_of}
+use Rattle.com_journal.specs.inner.Choices.{kind_of, wait_of, switch_of, input_of, end_of, stop_of, plain_end_of, frame_of}
 use Rattle.com_journal.specs.Lines.{advance_field, part_fields, item_field, end_fields, call_fields}
-use Rattle.com_journal.specs.Reading.{behind, word_at, number_in, number_at, chunk_at, text_at, in_area_at, out_area_at, receive_at, count_at, advance_by, advance_of, indicated, indicator_at, part_at, item_at, send_at, switch_output_at, switch_input_at, input_at, switch_at, stop_at, segments_at, stamp_of, stamp_at, are_short, arrive_at, frame_at, reason_at, finish_at, unit_verb, terminal_verb}
+use Rattle.com_journal.specs.inner.Reading.{behind, word_at, number_in, number_at, chunk_at, text_at, in_area_at, out_area_at, receive_at, count_at, advance_by, advance_of, indicated, indicator_at, part_at, item_at, send_at, switch_output_at, switch_input_at, input_at, switch_at, stop_at, segments_at, stamp_of, stamp_at, are_short, arrive_at, frame_at, reason_at, finish_at, unit_verb, terminal_verb}
 use Rattle.com_journal.proofs.Options.{step, option_map-Some, None-of, bytes_eq-true}
 use Rattle.com_journal.proofs.Numbers.{IsNumberIn-number_in, number_in-word}
 use Rattle.com_journal.proofs.Fields.{behind-Some, HasNoSpace, HasNoSpace-decimal}

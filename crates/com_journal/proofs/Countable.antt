@@ -7,7 +7,7 @@ use Rattle.com_events.specs.declared.call.Call.TheVariants.{Start, Receive, Coun
 use Rattle.com_events.specs.declared.reply.Reply.{Reply}
 use Rattle.com_events.specs.declared.reply.Reply.TheVariants.{Started, Given, NoData, Refused, Waits, AreaIn, AreaOut, Arrived, Done}
 use Rattle.com_events.specs.Calls.{IsItem, IsWellFormed, IsReplyTo}
-use Rattle.com_journal.specs.Writing.{AreCountable, IsCountableReply}
+use Rattle.com_journal.specs.inner.Writing.{AreCountable, IsCountableReply}
 
 item_countable : (item : Option (List ℕ)) → IfSome item IsItem → IfSome item IsCountable
 item_countable None h = tt

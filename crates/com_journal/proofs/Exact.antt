@@ -5,8 +5,8 @@ use Rattle.com_journal.specs.declared.fault.JournalFault.{JournalFault}
 use Rattle.com_journal.specs.declared.fault.JournalError.{JournalError}
 use Rattle.com_journal.specs.declared.fault.JournalError.TheVariants as error
 use Rattle.com_journal.specs.Faults.{Tells}
-use Rattle.com_journal.specs.Loops.{IsMemory}
-use Rattle.com_journal.specs.Outcomes.{Is}
+use Rattle.com_journal.specs.inner.Loops.{IsMemory}
+use Rattle.com_journal.specs.inner.Outcomes.{Is}
 
 pub each_good : {A : Type 0} (Good : A → Type 0) (Bad : JournalFault → Type 0) → ((x y : A) → Good x → Good y → x ≡ y) → ((x : A) (f : JournalFault) → Good x → Bad f → ⊥)
     → (r : Result A JournalError) → IfOk r Good → IfErr r (Tells Bad) → (x : A) → Good x → MatchResult r (Is x) IsMemory

@@ -12,8 +12,8 @@ use Rattle.com_text.specs.Counted.{counted_field, IsCountable}
 use Rattle.com_text.specs.Text.{IsText, is_text}
 use Rattle.com_cd.specs.InputArea.{IsInputArea}
 use Rattle.com_cd.specs.OutputArea.{IsOutputArea, occurrences_of}
-use Rattle.com_journal.specs.Outcomes.{◌>>=◌}
-use Rattle.com_journal.specs.Reading.{behind, is_space, word_at, expected, number_in, number_at, chunk_at, counted_at, is_text_of, text_at, is_input_area, in_area_at, is_output_area, out_area_at}
+use Rattle.com_journal.specs.inner.Outcomes.{◌>>=◌}
+use Rattle.com_journal.specs.inner.Reading.{behind, is_space, word_at, expected, number_in, number_at, chunk_at, counted_at, is_text_of, text_at, is_input_area, in_area_at, is_output_area, out_area_at}
 use Rattle.com_journal.proofs.Options.{step, eq-bytes_eq, bytes_eq-true}
 use Rattle.com_journal.proofs.Numbers.{IsNumberIn-number_in, number_in-word}
 use Rattle.com_journal.proofs.Fields.{behind-Some, split_counted-front, front-split_counted, HasNoSpace, HasNoSpace-decimal}

@@ -17,7 +17,7 @@ use Rattle.com_text.specs.Counted.{counted_field, is_colon, IsCountable, StandsA
 use Rattle.com_text.specs.Digits.{number}
 use Rattle.com_text.specs.Name.{IsName, is_name_byte}
 use Rattle.com_text.proofs.Numerals.{own_digits}
-use Rattle.com_journal.specs.Reading.{behind, is_space, split_counted}
+use Rattle.com_journal.specs.inner.Reading.{behind, is_space, split_counted}
 use Rattle.com_journal.proofs.Options.{option_map-Some, if-Some}
 
 -- the place of the first byte of a sort, or of the end

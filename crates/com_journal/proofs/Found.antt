@@ -8,8 +8,8 @@ use Rattle.com_events.specs.declared.entry.Entry.{Entry}
 use Rattle.com_journal.specs.declared.line.Unread.{Unread}
 use Rattle.com_journal.specs.declared.line.Unread.TheVariants as unread
 use Rattle.com_journal.specs.Lines.{IsCallText, IsLine}
-use Rattle.com_journal.specs.Outcomes.{Gives, Is, IsOutOfMemory}
-use Rattle.com_journal.specs.Reading.{call_of, entry_of}
+use Rattle.com_journal.specs.inner.Outcomes.{Gives, Is, IsOutOfMemory}
+use Rattle.com_journal.specs.inner.Reading.{call_of, entry_of}
 use Rattle.com_journal.proofs.LineLaws.{call-sound, call-complete, entry-sound, entry-complete}
 
 pub found_call : (line : List ℕ) (r : Result (Party × Call) Unread) → Gives (λ found. found) r (call_of line) → IfOk r (λ found. IsCallText found.0 found.1 line)

@@ -14,9 +14,9 @@ use Rattle.com_journal.specs.declared.fault.JournalError.TheVariants as error
 use Rattle.com_journal.specs.Lines.{IsCallText, IsLine}
 use Rattle.com_journal.specs.Journals.{journal_header, ended, AreLines, IsJournal}
 use Rattle.com_journal.specs.Scripts.{lines_of, script_header, AreCalls}
-use Rattle.com_journal.specs.Writing.{with_entry}
+use Rattle.com_journal.specs.inner.Writing.{with_entry}
 use Rattle.com_journal.specs.Faults.{IsFirstLine, IsJournalFault, Tells}
-use Rattle.com_journal.specs.Loops.{HasRead, IsRefusedAt, IsRefusedBehind, IsNoCall, HasReadCalls, IsBadCallBehind}
+use Rattle.com_journal.specs.inner.Loops.{HasRead, IsRefusedAt, IsRefusedBehind, IsNoCall, HasReadCalls, IsBadCallBehind}
 use Rattle.com_journal.proofs.LineLaws.{line_spelled, spelled-line, with_entry-line}
 use Rattle.com_journal.proofs.JournalLaws.{ended-append, lines-append}
 use Rattle.com_journal.proofs.FirstLines.{one_first_line, lines-first}

@@ -16,8 +16,8 @@ use Rattle.com_events.specs.declared.entry.Entry.{Entry}
 use Rattle.com_events.specs.Calls.{IsCallOf, IsWellFormed, HasText}
 use Rattle.com_journal.specs.Words.{frame_word}
 use Rattle.com_journal.specs.Lines.{spaced, end_fields, call_fields, reply_fields, call_text, reply_text, IsCallText, IsLine}
-use Rattle.com_journal.specs.Writing.{written, party_sort, party_name, with_entry}
-use Rattle.com_journal.specs.Reading.{word_at, expected, first_at, name_of, party_of, party_at, verb_behind, call_at, reply_at, end_at, call_of, entry_of}
+use Rattle.com_journal.specs.inner.Writing.{written, party_sort, party_name, with_entry}
+use Rattle.com_journal.specs.inner.Reading.{word_at, expected, first_at, name_of, party_of, party_at, verb_behind, call_at, reply_at, end_at, call_of, entry_of}
 use Rattle.com_journal.proofs.Options.{step}
 use Rattle.com_journal.proofs.Fields.{HasNoSpace-name}
 use Rattle.com_journal.proofs.Spelled.{spelled, spelled-rest, spaced-spelled, written-spelled}

@@ -37,7 +37,7 @@ use Rattle.com_events.specs.declared.entry.Entry.{Entry}
 use Rattle.com_events.specs.Calls.{IsPart, IsItem, IsEndReason, IsWellFormed, IsCallOf, AreNames, IsReplyTo}
 use Rattle.com_journal.specs.Words.{kind_word, wait_word, switch_word, input_word, end_word, stop_word, frame_word}
 use Rattle.com_journal.specs.Lines.{advance_field, part_fields, item_field, end_fields, call_fields, reply_fields, IsLine}
-use Rattle.com_journal.specs.Writing.{party_sort, party_name}
+use Rattle.com_journal.specs.inner.Writing.{party_sort, party_name}
 use Rattle.com_journal.proofs.Spelled.{spelled}
 use Rattle.com_journal.proofs.LineLaws.{line-spelled}
 

@@ -8,7 +8,7 @@ use Rattle.std.proofs.lemmas.Option.{cond_some}
 use Rattle.com_text.specs.Counted.{HasLeadingZero}
 use Rattle.com_text.specs.Digits.{IsNumber, number}
 use Rattle.com_text.proofs.Numerals.{own_digits}
-use Rattle.com_journal.specs.Reading.{number_in}
+use Rattle.com_journal.specs.inner.Reading.{number_in}
 use Rattle.com_journal.proofs.Options.{eq-bytes_eq, bytes_eq-true, None-of}
 
 -- the word writes a number within bounds

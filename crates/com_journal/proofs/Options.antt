@@ -3,7 +3,7 @@ use Rattle.std.proofs.Common.{◌≡◌, true, None, Some, Option, Bool, false, 
 use Rattle.std.specs.Str.{bytes_eq}
 use Rattle.std.proofs.lemmas.Option.{none-some, same_Some}
 use Rattle.std.proofs.lemmas.Slice.Eq.{bytes_eq-Decides}
-use Rattle.com_journal.specs.Outcomes.{◌>>=◌}
+use Rattle.com_journal.specs.inner.Outcomes.{◌>>=◌}
 
 -- what a step of a reader found, where the reader found something
 pub step : {A B P : Type 0} (o : Option A) (f : A → Option B) (y : B) → (o >>= f) ≡ Some y → ((x : A) → o ≡ Some x → f x ≡ Some y → P) → P

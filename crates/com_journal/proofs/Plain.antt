@@ -31,7 +31,7 @@ use Rattle.com_events.specs.declared.entry.Entry.{Entry}
 use Rattle.com_events.specs.Calls.{IsPart, IsItem, IsEndReason, IsWellFormed, IsCallOf, AreNames, IsReplyTo}
 use Rattle.com_msg.specs.declared.message.TheConstants.{MAX_SEGMENT_LENGTH}
 use Rattle.com_journal.specs.Lines.{advance_field, part_fields, item_field, end_fields, call_fields, reply_fields, IsLine}
-use Rattle.com_journal.specs.Writing.{party_sort, party_name}
+use Rattle.com_journal.specs.inner.Writing.{party_sort, party_name}
 use Rattle.com_journal.specs.Scripts.{is_line_feed}
 use Rattle.com_journal.specs.Faults.{IsUnbroken}
 use Rattle.com_journal.proofs.Spelled.{spelled}

@@ -16,7 +16,7 @@ use Rattle.com_events.specs.declared.reply.Reply.TheVariants.{Started, Given, No
 use Rattle.com_events.specs.Calls.{AreNames, IsReplyTo}
 use Rattle.com_msg.specs.declared.rest.TheConstants.{MAX_SIZE}
 use Rattle.com_journal.specs.Lines.{reply_fields}
-use Rattle.com_journal.specs.Reading.{word_at, expected, number_at, counted_at, text_at, in_area_at, out_area_at, names_of, names_at, started_at, given_at, without_data, refused_at, received_behind, received_at, input_after, output_after, arrived_at, done_at, reply_at}
+use Rattle.com_journal.specs.inner.Reading.{word_at, expected, number_at, counted_at, text_at, in_area_at, out_area_at, names_of, names_at, started_at, given_at, without_data, refused_at, received_behind, received_at, input_after, output_after, arrived_at, done_at, reply_at}
 use Rattle.com_journal.proofs.Options.{step}
 use Rattle.com_journal.proofs.Spelled.{spelled}
 use Rattle.com_journal.proofs.FieldLaws.{IsEnd, Reads, no_space, word-complete, word-sound, expected-complete, expected-sound, IsWithin, reads_number, reads_counted, IsTextOf, reads_text, reads_in_area, reads_out_area}

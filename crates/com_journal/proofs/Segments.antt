@@ -4,8 +4,8 @@ use Rattle.std.proofs.lemmas.List.{append-nil}
 use Rattle.com_msg.specs.declared.message.TheConstants.{MAX_SEGMENT_LENGTH}
 use Rattle.com_journal.specs.declared.line.Unread.{Unread}
 use Rattle.com_journal.specs.declared.line.Unread.TheVariants as unread
-use Rattle.com_journal.specs.Outcomes.{Fails}
-use Rattle.com_journal.specs.Reading.{text_at, segments_at}
+use Rattle.com_journal.specs.inner.Outcomes.{Fails}
+use Rattle.com_journal.specs.inner.Reading.{text_at, segments_at}
 
 -- segments, and after them what was read
 abbrev pub with_front : List (List ℕ) → Option (List (List ℕ) × List ℕ) → Option (List (List ℕ) × List ℕ)

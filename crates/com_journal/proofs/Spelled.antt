@@ -2,7 +2,7 @@
 use Rattle.std.proofs.Common.{◌≡◌, ℕ, ◌+◌, ◌<◌, List, [], ◌∷◌, ◌++◌, length, map, get_or, take, refl, sym, ap, ◌∙◌, append_assoc}
 use Rattle.std.proofs.lemmas.List.{append-nil, map-append, take_more}
 use Rattle.com_journal.specs.Lines.{spaced}
-use Rattle.com_journal.specs.Writing.{written}
+use Rattle.com_journal.specs.inner.Writing.{written}
 
 -- fields, and then these bytes
 abbrev pub spelled : List (List ℕ) → List ℕ → List ℕ

@@ -13,7 +13,7 @@ use Rattle.com_msg.specs.declared.framing.FrameKind.TheVariants.{BadByte, LongSe
 use Rattle.com_events.specs.declared.call.StopReason.{StopReason}
 use Rattle.com_events.specs.declared.call.StopReason.TheVariants as stop
 use Rattle.com_journal.specs.Words.{kind_word, wait_word, switch_word, input_word, end_word, stop_word, frame_word}
-use Rattle.com_journal.specs.Choices.{chosen, kinds, waits, switches, inputs, ends, stops, frames, kind_of, wait_of, switch_of, input_of, end_of, stop_of, frame_of}
+use Rattle.com_journal.specs.inner.Choices.{chosen, kinds, waits, switches, inputs, ends, stops, frames, kind_of, wait_of, switch_of, input_of, end_of, stop_of, frame_of}
 use Rattle.com_journal.proofs.Options.{bytes_eq-true}
 use Rattle.com_journal.proofs.Fields.{HasNoSpace}
 use Rattle.com_journal.proofs.FieldLaws.{no_space}

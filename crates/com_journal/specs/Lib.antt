@@ -2,10 +2,6 @@ pub mod Words
 pub mod Lines
 pub mod Journals
 pub mod Scripts
-pub mod Choices
-pub mod Outcomes
-pub mod Reading
-pub mod Writing
+pub mod inner
 pub mod Faults
-pub mod Loops
 pub mod Versions

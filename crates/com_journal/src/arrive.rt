@@ -2,9 +2,9 @@
 ghost use Rattle.std.specs.Prelude.{◌≡◌, ◌∷◌, All, length, map, decimal, OnOk};
 ghost use Rattle.com_text.specs.Counted.{IsCountable, counted_field};
 ghost use Rattle.com_journal.specs.Lines.{call_fields};
-ghost use Rattle.com_journal.specs.Writing.{written};
-ghost use Rattle.com_journal.specs.Outcomes.{Gives};
-ghost use Rattle.com_journal.specs.Reading.{stamp_of, stamp_at, segments_at, arrive_at, arrived_at};
+ghost use Rattle.com_journal.specs.inner.Writing.{written};
+ghost use Rattle.com_journal.specs.inner.Outcomes.{Gives};
+ghost use Rattle.com_journal.specs.inner.Reading.{stamp_of, stamp_at, segments_at, arrive_at, arrived_at};
 
 use crate::line::{Line, MAX_NUMBER, Unread};
 use crate::put::{put_decimal, put_field, put_word};
@@ -15,7 +15,7 @@ use com_text::{Rows, Text};
 use std::alloc::{AllocError, Global};
 
 /// Takes an ARRIVE, after its verb.
-#[tactic(auto, unfolding(crate::specs::Reading::arrive_at))]
+#[tactic(auto, unfolding(crate::specs::inner::Reading::arrive_at))]
 pub(crate) fn read_call(alloc: Global, line: &mut Line<'_>) -> Result<Call, Unread>
     ensures { Gives (λ call. (call, line.new)) result (arrive_at line.old) }
 {
@@ -31,7 +31,7 @@ pub(crate) fn read_call(alloc: Global, line: &mut Line<'_>) -> Result<Call, Unre
 }
 
 /// Takes what an ARRIVE is answered.
-#[tactic(auto, unfolding(crate::specs::Reading::arrived_at))]
+#[tactic(auto, unfolding(crate::specs::inner::Reading::arrived_at))]
 pub(crate) fn read_reply(line: &mut Line<'_>) -> Result<Reply, Unread>
     ensures { Gives (λ reply. (reply, line.new)) result (arrived_at line.old) }
 {
@@ -39,7 +39,7 @@ pub(crate) fn read_reply(line: &mut Line<'_>) -> Result<Reply, Unread>
     Ok(Reply::Arrived { number })
 }
 
-#[tactic(auto, unfolding(crate::specs::Reading::stamp_at))]
+#[tactic(auto, unfolding(crate::specs::inner::Reading::stamp_at))]
 fn stamp(line: &mut Line<'_>) -> Result<Stamp, Unread>
     ensures { Gives (λ stamp. (stamp, line.new)) result (stamp_at line.old) }
 {
@@ -48,7 +48,7 @@ fn stamp(line: &mut Line<'_>) -> Result<Stamp, Unread>
     stamp_of(date, time)
 }
 
-#[tactic(auto, unfolding(crate::specs::Reading::stamp_of))]
+#[tactic(auto, unfolding(crate::specs::inner::Reading::stamp_of))]
 fn stamp_of(date: &[u8; 6], time: &[u8; 8]) -> Result<Stamp, Unread>
     ensures { Gives (λ stamp. stamp) result (stamp_of date.now time.now) }
 {

@@ -1,9 +1,9 @@
 //! Who calls, and what for.
 ghost use Rattle.std.specs.Prelude.{◌≡◌, OnOk};
 ghost use Rattle.com_journal.specs.Lines.{call_fields};
-ghost use Rattle.com_journal.specs.Writing.{written, AreCountable};
-ghost use Rattle.com_journal.specs.Outcomes.{Gives};
-ghost use Rattle.com_journal.specs.Reading.{party_of, party_at, count_at, stop_at, unit_verb, terminal_verb, verb_behind, call_at};
+ghost use Rattle.com_journal.specs.inner.Writing.{written, AreCountable};
+ghost use Rattle.com_journal.specs.inner.Outcomes.{Gives};
+ghost use Rattle.com_journal.specs.inner.Reading.{party_of, party_at, count_at, stop_at, unit_verb, terminal_verb, verb_behind, call_at};
 
 use crate::line::{Line, Unread, name_of};
 use crate::put::{put_field, put_word};
@@ -14,7 +14,7 @@ use com_text::{Name, Rows};
 use std::alloc::{AllocError, Global};
 
 /// Takes the party and the call at the beginning of a line.
-#[tactic(auto, unfolding(crate::specs::Reading::call_at))]
+#[tactic(auto, unfolding(crate::specs::inner::Reading::call_at))]
 pub(crate) fn read(alloc: Global, line: &mut Line<'_>) -> Result<(Party, Call), Unread>
     ensures { Gives (λ found. (found, line.new)) result (call_at line.old) }
 {
@@ -24,7 +24,7 @@ pub(crate) fn read(alloc: Global, line: &mut Line<'_>) -> Result<(Party, Call), 
     Ok((party, call))
 }
 
-#[tactic(auto, unfolding(crate::specs::Reading::party_at))]
+#[tactic(auto, unfolding(crate::specs::inner::Reading::party_at))]
 fn party(line: &mut Line<'_>) -> Result<Party, Unread>
     ensures { Gives (λ party. (party, line.new)) result (party_at line.old) }
 {
@@ -33,7 +33,7 @@ fn party(line: &mut Line<'_>) -> Result<Party, Unread>
     party_of(sort, name)
 }
 
-#[tactic(auto, unfolding(crate::specs::Reading::party_of))]
+#[tactic(auto, unfolding(crate::specs::inner::Reading::party_of))]
 fn party_of(sort: u8, name: Name) -> Result<Party, Unread>
     ensures { Gives (λ party. party) result (party_of sort name) }
 {
@@ -45,7 +45,7 @@ fn party_of(sort: u8, name: Name) -> Result<Party, Unread>
 }
 
 /// Takes the call of a party, after its verb.
-#[tactic(auto, unfolding(crate::specs::Reading::verb_behind))]
+#[tactic(auto, unfolding(crate::specs::inner::Reading::verb_behind))]
 fn call_behind(
     alloc: Global,
     party: &Party,
@@ -60,7 +60,7 @@ fn call_behind(
     }
 }
 
-#[tactic(auto, unfolding(crate::specs::Reading::unit_verb))]
+#[tactic(auto, unfolding(crate::specs::inner::Reading::unit_verb))]
 fn unit_call(alloc: Global, verb: &[u8], line: &mut Line<'_>) -> Result<Call, Unread>
     ensures { Gives (λ call. (call, line.new)) result (unit_verb verb.now line.old) }
 {
@@ -80,7 +80,7 @@ fn unit_call(alloc: Global, verb: &[u8], line: &mut Line<'_>) -> Result<Call, Un
     }
 }
 
-#[tactic(auto, unfolding(crate::specs::Reading::terminal_verb))]
+#[tactic(auto, unfolding(crate::specs::inner::Reading::terminal_verb))]
 fn terminal_call(alloc: Global, verb: &[u8], line: &mut Line<'_>) -> Result<Call, Unread>
     ensures { Gives (λ call. (call, line.new)) result (terminal_verb verb.now line.old) }
 {
@@ -95,7 +95,7 @@ fn terminal_call(alloc: Global, verb: &[u8], line: &mut Line<'_>) -> Result<Call
     }
 }
 
-#[tactic(auto, unfolding(crate::specs::Reading::count_at))]
+#[tactic(auto, unfolding(crate::specs::inner::Reading::count_at))]
 fn count(line: &mut Line<'_>) -> Result<Call, Unread>
     ensures { Gives (λ call. (call, line.new)) result (count_at line.old) }
 {
@@ -103,7 +103,7 @@ fn count(line: &mut Line<'_>) -> Result<Call, Unread>
     Ok(Call::Count { area })
 }
 
-#[tactic(auto, unfolding(crate::specs::Reading::stop_at))]
+#[tactic(auto, unfolding(crate::specs::inner::Reading::stop_at))]
 fn stop(line: &mut Line<'_>) -> Result<Call, Unread>
     ensures { Gives (λ call. (call, line.new)) result (stop_at line.old) }
 {

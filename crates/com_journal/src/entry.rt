@@ -5,10 +5,10 @@ ghost use Rattle.com_events.specs.declared.call.Call.{Call as ACall};
 ghost use Rattle.com_events.specs.declared.entry.Entry.{Entry as AnEntry};
 ghost use Rattle.com_events.specs.Calls.{HasText};
 ghost use Rattle.com_journal.specs.Lines.{IsCallText, IsLine};
-ghost use Rattle.com_journal.specs.Outcomes.{Is, IsOutOfMemory};
-ghost use Rattle.com_journal.specs.Writing.{written, with_entry, party_sort, party_name};
-ghost use Rattle.com_journal.specs.Outcomes.{Gives};
-ghost use Rattle.com_journal.specs.Reading.{call_of, entry_of};
+ghost use Rattle.com_journal.specs.inner.Outcomes.{Is, IsOutOfMemory};
+ghost use Rattle.com_journal.specs.inner.Writing.{written, with_entry, party_sort, party_name};
+ghost use Rattle.com_journal.specs.inner.Outcomes.{Gives};
+ghost use Rattle.com_journal.specs.inner.Reading.{call_of, entry_of};
 
 use crate::line::{Line, Unread};
 use crate::put::put_word;
@@ -35,7 +35,7 @@ pub(crate) fn entry_of(alloc: Global, bytes: &[u8]) -> Result<Entry, Unread>
     read_entry(alloc, bytes)
 }
 
-#[tactic(auto, unfolding(crate::specs::Reading::call_of))]
+#[tactic(auto, unfolding(crate::specs::inner::Reading::call_of))]
 fn read_call(alloc: Global, bytes: &[u8]) -> Result<(Party, Call), Unread>
     ensures { Gives (λ found. found) result (call_of bytes.now) }
 {
@@ -45,7 +45,7 @@ fn read_call(alloc: Global, bytes: &[u8]) -> Result<(Party, Call), Unread>
     Ok(found)
 }
 
-#[tactic(auto, unfolding(crate::specs::Reading::entry_of))]
+#[tactic(auto, unfolding(crate::specs::inner::Reading::entry_of))]
 fn read_entry(alloc: Global, bytes: &[u8]) -> Result<Entry, Unread>
     ensures { Gives (λ entry. entry) result (entry_of bytes.now) }
 {

@@ -1,9 +1,9 @@
 //! END.
 ghost use Rattle.std.specs.Prelude.{◌≡◌, OnOk};
 ghost use Rattle.com_journal.specs.Lines.{end_fields};
-ghost use Rattle.com_journal.specs.Writing.{written};
-ghost use Rattle.com_journal.specs.Outcomes.{Gives};
-ghost use Rattle.com_journal.specs.Reading.{frame_at, reason_at, finish_at};
+ghost use Rattle.com_journal.specs.inner.Writing.{written};
+ghost use Rattle.com_journal.specs.inner.Outcomes.{Gives};
+ghost use Rattle.com_journal.specs.inner.Reading.{frame_at, reason_at, finish_at};
 
 use crate::line::{Line, MAX_NUMBER, Unread};
 use crate::put::{put_decimal, put_word};
@@ -14,7 +14,7 @@ use com_text::Rows;
 use std::alloc::AllocError;
 
 /// Takes an END, after its verb.
-#[tactic(auto, unfolding(crate::specs::Reading::finish_at))]
+#[tactic(auto, unfolding(crate::specs::inner::Reading::finish_at))]
 pub(crate) fn read_call(line: &mut Line<'_>) -> Result<Call, Unread>
     ensures { Gives (λ call. (call, line.new)) result (finish_at line.old) }
 {
@@ -22,7 +22,7 @@ pub(crate) fn read_call(line: &mut Line<'_>) -> Result<Call, Unread>
     Ok(Call::Finish { reason })
 }
 
-#[tactic(auto, unfolding(crate::specs::Reading::reason_at))]
+#[tactic(auto, unfolding(crate::specs::inner::Reading::reason_at))]
 fn reason(line: &mut Line<'_>) -> Result<EndReason, Unread>
     ensures { Gives (λ reason. (reason, line.new)) result (reason_at line.old) }
 {
@@ -34,7 +34,7 @@ fn reason(line: &mut Line<'_>) -> Result<EndReason, Unread>
 }
 
 /// Takes the kind and the place of a fault.
-#[tactic(auto, unfolding(crate::specs::Reading::frame_at))]
+#[tactic(auto, unfolding(crate::specs::inner::Reading::frame_at))]
 fn frame(line: &mut Line<'_>) -> Result<EndReason, Unread>
     ensures { Gives (λ reason. (reason, line.new)) result (frame_at line.old) }
 {

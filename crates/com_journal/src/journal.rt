@@ -6,8 +6,8 @@ ghost use Rattle.com_journal.specs.declared.fault.JournalFault.{JournalFault as 
 ghost use Rattle.com_journal.specs.Lines.{IsCallText, IsLine};
 ghost use Rattle.com_journal.specs.Journals.{IsJournal, AreLines, ended, journal_header};
 ghost use Rattle.com_journal.specs.Faults.{Tells, IsJournalFault, IsRefusedLine, IsFirstLine};
-ghost use Rattle.com_journal.specs.Loops.{HasRead, IsRefusedBehind, IsRefusedAt, IsNoEntry, IsMemory};
-ghost use Rattle.com_journal.specs.Outcomes.{Is, IsOutOfMemory};
+ghost use Rattle.com_journal.specs.inner.Loops.{HasRead, IsRefusedBehind, IsRefusedAt, IsNoEntry, IsMemory};
+ghost use Rattle.com_journal.specs.inner.Outcomes.{Is, IsOutOfMemory};
 
 use crate::line::Unread;
 use crate::split::{Lines, TextLine};

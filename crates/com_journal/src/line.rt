@@ -2,8 +2,8 @@
 ghost use Rattle.std.specs.Prelude.{◌≡◌, ◌≤◌, ◌<◌, ◌^◌, false, Some, None, codes, IfOk, IfSome, IsTrue, ◌↔◌, length, option_map};
 ghost use Rattle.std.specs.List.{position, position_or_len};
 ghost use Rattle.com_text.specs.Text.{IsText};
-ghost use Rattle.com_journal.specs.Outcomes.{Gives};
-ghost use Rattle.com_journal.specs.Reading.{word_at, expected, number_in, number_at, chunk_at, split_counted, counted_at, is_text_of, text_at, in_area_at, out_area_at, first_at, name_of, is_space, behind, end_at};
+ghost use Rattle.com_journal.specs.inner.Outcomes.{Gives};
+ghost use Rattle.com_journal.specs.inner.Reading.{word_at, expected, number_in, number_at, chunk_at, split_counted, counted_at, is_text_of, text_at, in_area_at, out_area_at, first_at, name_of, is_space, behind, end_at};
 
 use com_cd::{InArea, OutArea};
 use com_text::{Name, Text, has_leading_zero, is_text, number_of, take_counted};
@@ -44,7 +44,7 @@ impl<'a> Line<'a> {
     }
 
     /// Passes the end.
-    #[tactic(auto, unfolding(crate::specs::Reading::end_at))]
+    #[tactic(auto, unfolding(crate::specs::inner::Reading::end_at))]
     pub(crate) fn end(&self) -> Result<(), Unread>
         ensures { Gives (λ _. self.now) result (end_at self.now) }
     {
@@ -56,7 +56,7 @@ impl<'a> Line<'a> {
     }
 
     /// Takes the next byte.
-    #[tactic(auto, unfolding(crate::specs::Reading::first_at))]
+    #[tactic(auto, unfolding(crate::specs::inner::Reading::first_at))]
     pub(crate) fn first(&mut self) -> Result<u8, Unread>
         ensures { Gives (λ byte. (byte, self.new)) result (first_at self.old) }
     {
@@ -68,7 +68,7 @@ impl<'a> Line<'a> {
     }
 
     /// Takes the word after a space, up to the next space or the end.
-    #[tactic(auto, unfolding(crate::specs::Reading::word_at))]
+    #[tactic(auto, unfolding(crate::specs::inner::Reading::word_at))]
     pub(crate) fn word(&mut self) -> Result<&'a [u8], Unread>
         ensures { Gives (λ word. (word.now, self.new)) result (word_at self.old) }
     {
@@ -81,7 +81,7 @@ impl<'a> Line<'a> {
     }
 
     /// Passes this word.
-    #[tactic(auto, unfolding(crate::specs::Reading::expected))]
+    #[tactic(auto, unfolding(crate::specs::inner::Reading::expected))]
     pub(crate) fn expect(&mut self, word: &[u8]) -> Result<(), Unread>
         ensures { Gives (λ _. self.new) result (expected word.now self.old) }
     {
@@ -109,7 +109,7 @@ impl<'a> Line<'a> {
     }
 
     /// Takes the number after a space, written without a leading zero.
-    #[tactic(auto, unfolding(crate::specs::Reading::number_at))]
+    #[tactic(auto, unfolding(crate::specs::inner::Reading::number_at))]
     pub(crate) fn number(&mut self, least: u64, most: u64) -> Result<u64, Unread>
         requires { most < 10 ^ 18 }
         ensures number { Gives (λ n. (n, self.new)) result (number_at least most self.old) }
@@ -123,7 +123,7 @@ impl<'a> Line<'a> {
     }
 
     /// So many bytes after a space.
-    #[tactic(auto, unfolding(crate::specs::Reading::chunk_at))]
+    #[tactic(auto, unfolding(crate::specs::inner::Reading::chunk_at))]
     pub(crate) fn chunk<const N: usize>(&mut self) -> Result<&'a [u8; N], Unread>
         ensures { Gives (λ chunk. (chunk.now, self.new)) result (chunk_at N self.old) }
     {
@@ -138,7 +138,7 @@ impl<'a> Line<'a> {
     }
 
     /// Takes the content of the counted field after a space.
-    #[tactic(auto, unfolding(crate::specs::Reading::counted_at))]
+    #[tactic(auto, unfolding(crate::specs::inner::Reading::counted_at))]
     pub(crate) fn counted(&mut self) -> Result<&'a [u8], Unread>
         ensures { Gives (λ content. (content.now, self.new)) result (counted_at self.old) }
     {
@@ -153,7 +153,7 @@ impl<'a> Line<'a> {
     }
 
     /// Takes the text of so many characters in the counted field after a space.
-    #[tactic(auto, unfolding(crate::specs::Reading::text_at))]
+    #[tactic(auto, unfolding(crate::specs::inner::Reading::text_at))]
     pub(crate) fn text(&mut self, alloc: Global, least: usize, most: usize) -> Result<Text, Unread>
         ensures { Gives (λ text. (text, self.new)) result (text_at least most self.old) }
     {
@@ -168,7 +168,7 @@ impl<'a> Line<'a> {
     }
 
     /// Takes the input area in the counted field after a space.
-    #[tactic(auto, unfolding(crate::specs::Reading::in_area_at))]
+    #[tactic(auto, unfolding(crate::specs::inner::Reading::in_area_at))]
     pub(crate) fn in_area(&mut self) -> Result<InArea, Unread>
         ensures { Gives (λ area. (area, self.new)) result (in_area_at self.old) }
     {
@@ -179,7 +179,7 @@ impl<'a> Line<'a> {
     }
 
     /// Takes the output area in the counted field after a space.
-    #[tactic(auto, unfolding(crate::specs::Reading::out_area_at))]
+    #[tactic(auto, unfolding(crate::specs::inner::Reading::out_area_at))]
     pub(crate) fn out_area(&mut self) -> Result<OutArea, Unread>
         ensures { Gives (λ area. (area, self.new)) result (out_area_at self.old) }
     {
@@ -198,7 +198,7 @@ fn is_text_of(least: usize, most: usize, bytes: &[u8]) -> bool
 }
 
 /// Returns the name that a word is.
-#[tactic(auto, unfolding(crate::specs::Reading::name_of))]
+#[tactic(auto, unfolding(crate::specs::inner::Reading::name_of))]
 pub(crate) fn name_of(word: &[u8]) -> Result<Name, Unread>
     ensures { Gives (λ name. name) result (name_of word.now) }
 {

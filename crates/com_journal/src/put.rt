@@ -1,7 +1,7 @@
 //! Writing the fields of a line.
 ghost use Rattle.std.specs.Prelude.{◌≡◌, ◌++◌, ◌∷◌, [], OnOk, decimal};
 ghost use Rattle.com_text.specs.Counted.{IsCountable, counted_field};
-ghost use Rattle.com_journal.specs.Writing.{written};
+ghost use Rattle.com_journal.specs.inner.Writing.{written};
 
 use com_text::{Rows, put_counted, put_number};
 use std::alloc::AllocError;

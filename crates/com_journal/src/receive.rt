@@ -2,9 +2,9 @@
 ghost use Rattle.std.specs.Prelude.{◌≡◌, ◌≤◌, length, OnOk};
 ghost use Rattle.com_text.specs.Counted.{IsCountable};
 ghost use Rattle.com_journal.specs.Lines.{call_fields, reply_fields};
-ghost use Rattle.com_journal.specs.Writing.{written};
-ghost use Rattle.com_journal.specs.Outcomes.{Gives};
-ghost use Rattle.com_journal.specs.Reading.{receive_at, given_at, without_data, refused_at, received_behind, received_at};
+ghost use Rattle.com_journal.specs.inner.Writing.{written};
+ghost use Rattle.com_journal.specs.inner.Outcomes.{Gives};
+ghost use Rattle.com_journal.specs.inner.Reading.{receive_at, given_at, without_data, refused_at, received_behind, received_at};
 
 use crate::line::{Line, Unread};
 use crate::put::{put_decimal, put_field, put_word};
@@ -16,7 +16,7 @@ use com_text::{Rows, Text};
 use std::alloc::{AllocError, Global};
 
 /// Takes a RECEIVE, after its verb.
-#[tactic(auto, unfolding(crate::specs::Reading::receive_at))]
+#[tactic(auto, unfolding(crate::specs::inner::Reading::receive_at))]
 pub(crate) fn read_call(line: &mut Line<'_>) -> Result<Call, Unread>
     ensures { Gives (λ call. (call, line.new)) result (receive_at line.old) }
 {
@@ -33,7 +33,7 @@ pub(crate) fn read_call(line: &mut Line<'_>) -> Result<Call, Unread>
 }
 
 /// Takes what a RECEIVE is answered.
-#[tactic(auto, unfolding(crate::specs::Reading::received_at))]
+#[tactic(auto, unfolding(crate::specs::inner::Reading::received_at))]
 pub(crate) fn read_reply(alloc: Global, line: &mut Line<'_>) -> Result<Reply, Unread>
     ensures { Gives (λ reply. (reply, line.new)) result (received_at line.old) }
 {
@@ -41,7 +41,7 @@ pub(crate) fn read_reply(alloc: Global, line: &mut Line<'_>) -> Result<Reply, Un
     reply_behind(alloc, word, line)
 }
 
-#[tactic(auto, unfolding(crate::specs::Reading::received_behind))]
+#[tactic(auto, unfolding(crate::specs::inner::Reading::received_behind))]
 fn reply_behind(alloc: Global, word: &[u8], line: &mut Line<'_>) -> Result<Reply, Unread>
     ensures { Gives (λ reply. (reply, line.new)) result (received_behind word.now line.old) }
 {
@@ -58,7 +58,7 @@ fn reply_behind(alloc: Global, word: &[u8], line: &mut Line<'_>) -> Result<Reply
     }
 }
 
-#[tactic(auto, unfolding(crate::specs::Reading::given_at))]
+#[tactic(auto, unfolding(crate::specs::inner::Reading::given_at))]
 fn given(alloc: Global, line: &mut Line<'_>) -> Result<Reply, Unread>
     ensures { Gives (λ reply. (reply, line.new)) result (given_at line.old) }
 {
@@ -67,7 +67,7 @@ fn given(alloc: Global, line: &mut Line<'_>) -> Result<Reply, Unread>
     Ok(Reply::Given { area, text })
 }
 
-#[tactic(auto, unfolding(crate::specs::Reading::without_data))]
+#[tactic(auto, unfolding(crate::specs::inner::Reading::without_data))]
 fn without_data(line: &mut Line<'_>) -> Result<Reply, Unread>
     ensures { Gives (λ reply. (reply, line.new)) result (without_data line.old) }
 {
@@ -75,7 +75,7 @@ fn without_data(line: &mut Line<'_>) -> Result<Reply, Unread>
     Ok(Reply::NoData { area })
 }
 
-#[tactic(auto, unfolding(crate::specs::Reading::refused_at))]
+#[tactic(auto, unfolding(crate::specs::inner::Reading::refused_at))]
 fn refused(line: &mut Line<'_>) -> Result<Reply, Unread>
     ensures { Gives (λ reply. (reply, line.new)) result (refused_at line.old) }
 {

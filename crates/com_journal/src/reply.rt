@@ -1,9 +1,9 @@
 //! What a call is answered.
 ghost use Rattle.std.specs.Prelude.{◌≡◌, OnOk};
 ghost use Rattle.com_journal.specs.Lines.{reply_fields};
-ghost use Rattle.com_journal.specs.Writing.{written, IsCountableReply};
-ghost use Rattle.com_journal.specs.Outcomes.{Gives};
-ghost use Rattle.com_journal.specs.Reading.{names_of, names_at, started_at, input_after, output_after, done_at, reply_at};
+ghost use Rattle.com_journal.specs.inner.Writing.{written, IsCountableReply};
+ghost use Rattle.com_journal.specs.inner.Outcomes.{Gives};
+ghost use Rattle.com_journal.specs.inner.Reading.{names_of, names_at, started_at, input_after, output_after, done_at, reply_at};
 
 use crate::line::{Line, Unread};
 use crate::put::{put_decimal, put_field, put_word};
@@ -14,7 +14,7 @@ use com_text::{Rows, is_text};
 use std::alloc::{AllocError, Global};
 
 /// Takes the reply to a call.
-#[tactic(auto, unfolding(crate::specs::Reading::reply_at))]
+#[tactic(auto, unfolding(crate::specs::inner::Reading::reply_at))]
 pub(crate) fn read(alloc: Global, call: &Call, line: &mut Line<'_>) -> Result<Reply, Unread>
     ensures { Gives (λ reply. (reply, line.new)) result (reply_at call.now line.old) }
 {
@@ -28,7 +28,7 @@ pub(crate) fn read(alloc: Global, call: &Call, line: &mut Line<'_>) -> Result<Re
     }
 }
 
-#[tactic(auto, unfolding(crate::specs::Reading::started_at))]
+#[tactic(auto, unfolding(crate::specs::inner::Reading::started_at))]
 fn started(line: &mut Line<'_>) -> Result<Reply, Unread>
     ensures { Gives (λ reply. (reply, line.new)) result (started_at line.old) }
 {
@@ -36,7 +36,7 @@ fn started(line: &mut Line<'_>) -> Result<Reply, Unread>
     Ok(Reply::Started { names })
 }
 
-#[tactic(auto, unfolding(crate::specs::Reading::names_at))]
+#[tactic(auto, unfolding(crate::specs::inner::Reading::names_at))]
 fn names(line: &mut Line<'_>) -> Result<Option<[u8; NAMES_LENGTH]>, Unread>
     ensures { Gives (λ names. (names, line.new)) result (names_at line.old) }
 {
@@ -44,7 +44,7 @@ fn names(line: &mut Line<'_>) -> Result<Option<[u8; NAMES_LENGTH]>, Unread>
 }
 
 /// Returns the four names, or none if there are no characters.
-#[tactic(auto, unfolding(crate::specs::Reading::names_of))]
+#[tactic(auto, unfolding(crate::specs::inner::Reading::names_of))]
 fn names_of(content: &[u8]) -> Result<Option<[u8; NAMES_LENGTH]>, Unread>
     ensures { Gives (λ names. names) result (names_of content.now) }
 {
@@ -59,7 +59,7 @@ fn names_of(content: &[u8]) -> Result<Option<[u8; NAMES_LENGTH]>, Unread>
     Ok(Some(names))
 }
 
-#[tactic(auto, unfolding(crate::specs::Reading::input_after))]
+#[tactic(auto, unfolding(crate::specs::inner::Reading::input_after))]
 fn input_area(line: &mut Line<'_>) -> Result<Reply, Unread>
     ensures { Gives (λ reply. (reply, line.new)) result (input_after line.old) }
 {
@@ -67,7 +67,7 @@ fn input_area(line: &mut Line<'_>) -> Result<Reply, Unread>
     Ok(Reply::AreaIn { area })
 }
 
-#[tactic(auto, unfolding(crate::specs::Reading::output_after))]
+#[tactic(auto, unfolding(crate::specs::inner::Reading::output_after))]
 fn output_area(line: &mut Line<'_>) -> Result<Reply, Unread>
     ensures { Gives (λ reply. (reply, line.new)) result (output_after line.old) }
 {
@@ -75,7 +75,7 @@ fn output_area(line: &mut Line<'_>) -> Result<Reply, Unread>
     Ok(Reply::AreaOut { area })
 }
 
-#[tactic(auto, unfolding(crate::specs::Reading::done_at))]
+#[tactic(auto, unfolding(crate::specs::inner::Reading::done_at))]
 fn done(line: &mut Line<'_>) -> Result<Reply, Unread>
     ensures { Gives (λ reply. (reply, line.new)) result (done_at line.old) }
 {

@@ -6,8 +6,8 @@ ghost use Rattle.com_journal.specs.declared.fault.JournalFault.{JournalFault as 
 ghost use Rattle.com_journal.specs.Lines.{IsCallText};
 ghost use Rattle.com_journal.specs.Scripts.{IsScript, AreCalls, lines_of, script_header};
 ghost use Rattle.com_journal.specs.Faults.{Tells, IsScriptFault, IsFirstLine};
-ghost use Rattle.com_journal.specs.Loops.{IsNoCall, IsBadCallBehind, IsMemory};
-ghost use Rattle.com_journal.specs.Outcomes.{Is, IsOutOfMemory};
+ghost use Rattle.com_journal.specs.inner.Loops.{IsNoCall, IsBadCallBehind, IsMemory};
+ghost use Rattle.com_journal.specs.inner.Outcomes.{Is, IsOutOfMemory};
 
 use crate::journal::refused;
 use crate::line::Unread;

@@ -2,9 +2,9 @@
 ghost use Rattle.std.specs.Prelude.{◌≡◌, ◌∷◌, [], IfSome, OnOk};
 ghost use Rattle.com_text.specs.Counted.{IsCountable};
 ghost use Rattle.com_journal.specs.Lines.{advance_field, part_fields, item_field, call_fields};
-ghost use Rattle.com_journal.specs.Writing.{written};
-ghost use Rattle.com_journal.specs.Outcomes.{Gives};
-ghost use Rattle.com_journal.specs.Reading.{advance_by, advance_of, indicated, indicator_at, part_at, item_at, send_at};
+ghost use Rattle.com_journal.specs.inner.Writing.{written};
+ghost use Rattle.com_journal.specs.inner.Outcomes.{Gives};
+ghost use Rattle.com_journal.specs.inner.Reading.{advance_by, advance_of, indicated, indicator_at, part_at, item_at, send_at};
 
 use crate::line::{Line, Unread, number_in};
 use crate::put::{put_field, put_word};
@@ -15,7 +15,7 @@ use com_text::{Rows, Text, put_number};
 use std::alloc::{AllocError, Global};
 
 /// Takes a SEND, after its verb.
-#[tactic(auto, unfolding(crate::specs::Reading::send_at))]
+#[tactic(auto, unfolding(crate::specs::inner::Reading::send_at))]
 pub(crate) fn read_call(alloc: Global, line: &mut Line<'_>) -> Result<Call, Unread>
     ensures { Gives (λ call. (call, line.new)) result (send_at line.old) }
 {
@@ -25,7 +25,7 @@ pub(crate) fn read_call(alloc: Global, line: &mut Line<'_>) -> Result<Call, Unre
     Ok(Call::Send { area, part, from })
 }
 
-#[tactic(auto, unfolding(crate::specs::Reading::part_at))]
+#[tactic(auto, unfolding(crate::specs::inner::Reading::part_at))]
 fn part(line: &mut Line<'_>) -> Result<Part, Unread>
     ensures { Gives (λ part. (part, line.new)) result (part_at line.old) }
 {
@@ -37,7 +37,7 @@ fn part(line: &mut Line<'_>) -> Result<Part, Unread>
 }
 
 /// Takes an indicator with its advance, after its word.
-#[tactic(auto, unfolding(crate::specs::Reading::indicator_at))]
+#[tactic(auto, unfolding(crate::specs::inner::Reading::indicator_at))]
 fn indicator(word: &[u8], line: &mut Line<'_>) -> Result<Part, Unread>
     ensures { Gives (λ part. (part, line.new)) result (indicator_at word.now line.old) }
 {
@@ -45,7 +45,7 @@ fn indicator(word: &[u8], line: &mut Line<'_>) -> Result<Part, Unread>
     indicated(word, advance)
 }
 
-#[tactic(auto, unfolding(crate::specs::Reading::indicated))]
+#[tactic(auto, unfolding(crate::specs::inner::Reading::indicated))]
 fn indicated(word: &[u8], advance: Advance) -> Result<Part, Unread>
     ensures { Gives (λ part. part) result (indicated word.now advance) }
 {
@@ -60,7 +60,7 @@ fn indicated(word: &[u8], advance: Advance) -> Result<Part, Unread>
     }
 }
 
-#[tactic(auto, unfolding(crate::specs::Reading::advance_of, crate::specs::Reading::advance_by))]
+#[tactic(auto, unfolding(crate::specs::inner::Reading::advance_of, crate::specs::inner::Reading::advance_by))]
 fn advance_of(word: &[u8]) -> Result<Advance, Unread>
     ensures { Gives (λ advance. advance) result (advance_of word.now) }
 {
@@ -75,7 +75,7 @@ fn advance_of(word: &[u8]) -> Result<Advance, Unread>
 }
 
 /// Returns how far the terminal advances after the text.
-#[tactic(auto, unfolding(crate::specs::Reading::advance_by))]
+#[tactic(auto, unfolding(crate::specs::inner::Reading::advance_by))]
 fn before(how: &[u8]) -> Result<Advance, Unread>
     ensures { Gives (λ advance. advance) result
         (advance_by Advance.BeforePage Advance.Before how.now) }
@@ -90,7 +90,7 @@ fn before(how: &[u8]) -> Result<Advance, Unread>
 }
 
 /// Returns how far the terminal advances before the text.
-#[tactic(auto, unfolding(crate::specs::Reading::advance_by))]
+#[tactic(auto, unfolding(crate::specs::inner::Reading::advance_by))]
 fn after(how: &[u8]) -> Result<Advance, Unread>
     ensures { Gives (λ advance. advance) result
         (advance_by Advance.AfterPage Advance.After how.now) }
@@ -104,7 +104,7 @@ fn after(how: &[u8]) -> Result<Advance, Unread>
     }
 }
 
-#[tactic(auto, unfolding(crate::specs::Reading::item_at))]
+#[tactic(auto, unfolding(crate::specs::inner::Reading::item_at))]
 fn item(alloc: Global, line: &mut Line<'_>) -> Result<Option<Text>, Unread>
     ensures { Gives (λ item. (item, line.new)) result (item_at line.old) }
 {

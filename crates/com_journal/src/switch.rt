@@ -2,9 +2,9 @@
 ghost use Rattle.std.specs.Prelude.{◌≡◌, OnOk};
 ghost use Rattle.com_text.specs.Counted.{IsCountable};
 ghost use Rattle.com_journal.specs.Lines.{call_fields};
-ghost use Rattle.com_journal.specs.Writing.{written};
-ghost use Rattle.com_journal.specs.Outcomes.{Gives};
-ghost use Rattle.com_journal.specs.Reading.{switch_output_at, switch_input_at, input_at, switch_at};
+ghost use Rattle.com_journal.specs.inner.Writing.{written};
+ghost use Rattle.com_journal.specs.inner.Outcomes.{Gives};
+ghost use Rattle.com_journal.specs.inner.Reading.{switch_output_at, switch_input_at, input_at, switch_at};
 
 use crate::line::{Line, Unread};
 use crate::put::{put_field, put_word};
@@ -15,7 +15,7 @@ use com_text::{Rows, Text};
 use std::alloc::{AllocError, Global};
 
 /// Takes an ENABLE (`on`) or DISABLE, after its verb.
-#[tactic(auto, unfolding(crate::specs::Reading::switch_at))]
+#[tactic(auto, unfolding(crate::specs::inner::Reading::switch_at))]
 pub(crate) fn read_call(alloc: Global, on: bool, line: &mut Line<'_>) -> Result<Call, Unread>
     ensures { Gives (λ call. (call, line.new)) result (switch_at on line.old) }
 {
@@ -26,7 +26,7 @@ pub(crate) fn read_call(alloc: Global, on: bool, line: &mut Line<'_>) -> Result<
     input(alloc, on, word, line)
 }
 
-#[tactic(auto, unfolding(crate::specs::Reading::switch_output_at))]
+#[tactic(auto, unfolding(crate::specs::inner::Reading::switch_output_at))]
 fn output(alloc: Global, on: bool, line: &mut Line<'_>) -> Result<Call, Unread>
     ensures { Gives (λ call. (call, line.new)) result (switch_output_at on line.old) }
 {
@@ -36,7 +36,7 @@ fn output(alloc: Global, on: bool, line: &mut Line<'_>) -> Result<Call, Unread>
 }
 
 /// INPUT or INPUT TERMINAL, after its word.
-#[tactic(auto, unfolding(crate::specs::Reading::input_at, crate::specs::Reading::switch_input_at))]
+#[tactic(auto, unfolding(crate::specs::inner::Reading::input_at, crate::specs::inner::Reading::switch_input_at))]
 fn input(alloc: Global, on: bool, word: &[u8], line: &mut Line<'_>) -> Result<Call, Unread>
     ensures { Gives (λ call. (call, line.new)) result (input_at on word.now line.old) }
 {

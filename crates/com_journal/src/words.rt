@@ -1,14 +1,14 @@
 //! Words that stand for a choice, as they are read and written.
 ghost use Rattle.std.specs.Prelude.{◌≡◌};
-ghost use Rattle.com_journal.specs.Outcomes.{Gives};
-ghost use Rattle.com_journal.specs.Choices.{kind_of, wait_of, switch_of, input_of, end_of, stop_of, plain_end_of, frame_of};
+ghost use Rattle.com_journal.specs.inner.Outcomes.{Gives};
+ghost use Rattle.com_journal.specs.inner.Choices.{kind_of, wait_of, switch_of, input_of, end_of, stop_of, plain_end_of, frame_of};
 ghost use Rattle.com_journal.specs.Words.{kind_word, wait_word, switch_word, input_word, end_word, stop_word, frame_word};
 
 use crate::line::Unread;
 use com_events::{EndReason, StopReason};
 use com_msg::{End, FrameKind, Kind};
 
-#[tactic(auto, unfolding(crate::specs::Choices::kind_of))]
+#[tactic(auto, unfolding(crate::specs::inner::Choices::kind_of))]
 pub(crate) fn kind_of(word: &[u8]) -> Result<Kind, Unread>
     ensures { Gives (λ kind. kind) result (kind_of word.now) }
 {
@@ -31,7 +31,7 @@ pub(crate) fn kind_word(kind: Kind) -> &'static [u8]
 }
 
 /// Returns whether NO DATA is written.
-#[tactic(auto, unfolding(crate::specs::Choices::wait_of))]
+#[tactic(auto, unfolding(crate::specs::inner::Choices::wait_of))]
 pub(crate) fn wait_of(word: &[u8]) -> Result<bool, Unread>
     ensures { Gives (λ no_data. no_data) result (wait_of word.now) }
 {
@@ -51,7 +51,7 @@ pub(crate) fn wait_word(no_data: bool) -> &'static [u8]
 }
 
 /// Returns whether something is enabled.
-#[tactic(auto, unfolding(crate::specs::Choices::switch_of))]
+#[tactic(auto, unfolding(crate::specs::inner::Choices::switch_of))]
 pub(crate) fn switch_of(word: &[u8]) -> Result<bool, Unread>
     ensures { Gives (λ on. on) result (switch_of word.now) }
 {
@@ -71,7 +71,7 @@ pub(crate) fn switch_word(on: bool) -> &'static [u8]
 }
 
 /// Returns whether TERMINAL is written.
-#[tactic(auto, unfolding(crate::specs::Choices::input_of))]
+#[tactic(auto, unfolding(crate::specs::inner::Choices::input_of))]
 pub(crate) fn input_of(word: &[u8]) -> Result<bool, Unread>
     ensures { Gives (λ terminal. terminal) result (input_of word.now) }
 {
@@ -90,7 +90,7 @@ pub(crate) fn input_word(terminal: bool) -> &'static [u8]
     if terminal { b"TERMINAL" } else { b"INPUT" }
 }
 
-#[tactic(auto, unfolding(crate::specs::Choices::end_of))]
+#[tactic(auto, unfolding(crate::specs::inner::Choices::end_of))]
 pub(crate) fn end_of(word: &[u8]) -> Result<End, Unread>
     ensures { Gives (λ end. end) result (end_of word.now) }
 {
@@ -113,7 +113,7 @@ pub fn end_word(end: End) -> &'static [u8]
     }
 }
 
-#[tactic(auto, unfolding(crate::specs::Choices::stop_of))]
+#[tactic(auto, unfolding(crate::specs::inner::Choices::stop_of))]
 pub(crate) fn stop_of(word: &[u8]) -> Result<StopReason, Unread>
     ensures { Gives (λ reason. reason) result (stop_of word.now) }
 {
@@ -142,7 +142,7 @@ pub(crate) fn stop_word(reason: StopReason) -> &'static [u8]
 }
 
 /// Why a terminal ends, where the word says all of it.
-#[tactic(auto, unfolding(crate::specs::Choices::plain_end_of))]
+#[tactic(auto, unfolding(crate::specs::inner::Choices::plain_end_of))]
 pub(crate) fn plain_end_of(word: &[u8]) -> Result<EndReason, Unread>
     ensures { Gives (λ reason. reason) result (plain_end_of word.now) }
 {
@@ -159,7 +159,7 @@ pub(crate) fn plain_end_of(word: &[u8]) -> Result<EndReason, Unread>
     }
 }
 
-#[tactic(auto, unfolding(crate::specs::Choices::frame_of))]
+#[tactic(auto, unfolding(crate::specs::inner::Choices::frame_of))]
 pub(crate) fn frame_of(word: &[u8]) -> Result<FrameKind, Unread>
     ensures { Gives (λ kind. kind) result (frame_of word.now) }
 {

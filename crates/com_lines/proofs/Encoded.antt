@@ -15,7 +15,7 @@ use Rattle.com_lines.specs.Bytes.{is_between, is_ending, last_of, run, tail_of}
 use Rattle.com_lines.specs.Faults.{kind_of}
 use Rattle.com_msg.specs.Limits.{IsWithinLimits}
 use Rattle.com_lines.specs.Frames.{Frames, encoded, ending_byte, joined, spelling}
-use Rattle.com_lines.specs.Reads.{Reads}
+use Rattle.com_lines.specs.inner.Reads.{Reads}
 use Rattle.com_lines.proofs.OneByte.{plain, reads-between, reads-character, reads-end, reads-line_feed, reads-none}
 use Rattle.com_lines.proofs.Runs.{last_of-push}
 

@@ -14,8 +14,8 @@ use Rattle.com_lines.specs.declared.reading.Reading.{Reading}
 use Rattle.com_lines.specs.Bytes.{is_ending}
 use Rattle.com_lines.specs.Faults.{is_open, kind_at, kind_at_end, kind_of}
 use Rattle.com_lines.specs.Frames.{Frames, IsClear}
-use Rattle.com_lines.specs.Reads.{HoldsReturn, IsClearSoFar, Reads, opened}
-use Rattle.com_lines.specs.Readings.{HasRead, IsFaulty, IsSafe, IsWhole, has_open, holds_return, open_message}
+use Rattle.com_lines.specs.inner.Reads.{HoldsReturn, IsClearSoFar, Reads, opened}
+use Rattle.com_lines.specs.inner.Readings.{HasRead, IsFaulty, IsSafe, IsWhole, has_open, holds_return, open_message}
 use Rattle.com_lines.proofs.OneByte.{reads-end}
 use Rattle.com_lines.proofs.Runs.{last_of-get}
 use Rattle.com_lines.proofs.Stops.{ended-before_return, free-told, held-from, return-kind}

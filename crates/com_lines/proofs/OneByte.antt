@@ -13,7 +13,7 @@ use Rattle.com_msg.specs.declared.framing.Framing.{Framing}
 use Rattle.com_msg.specs.declared.framing.Framing.TheVariants.{Marks, Lines}
 use Rattle.com_lines.specs.Bytes.{is_between, is_ending, is_inside, is_kept, is_skipped, last_of, run, ended, tail_of}
 use Rattle.com_lines.specs.Frames.{HasSegments, IsFramed, ending_byte, joined, spelling}
-use Rattle.com_lines.specs.Reads.{HoldsReturn, MayStand, Reads, opened}
+use Rattle.com_lines.specs.inner.Reads.{HoldsReturn, MayStand, Reads, opened}
 use Rattle.com_lines.proofs.Places.{IsRight, clear-push}
 use Rattle.com_lines.proofs.Runs.{run-last, run-push_yes, run-push_no, before_run-push_yes, before_run-push_no, before_run-run, last_of-push, filter-push_yes, filter-push_no, count-push_yes, count-push_no}
 

@@ -7,7 +7,7 @@ use Rattle.com_msg.specs.declared.framing.Framing.TheVariants.{Marks, Lines}
 use Rattle.com_msg.specs.declared.framing.FrameFault.{FrameFault}
 use Rattle.com_lines.specs.declared.reading.Reading.{Reading}
 use Rattle.com_lines.specs.Frames.{IsSettled, IsStopped}
-use Rattle.com_lines.specs.Readings.{IsContinued, IsCutOff, IsNext, IsStop}
+use Rattle.com_lines.specs.inner.Readings.{IsContinued, IsCutOff, IsNext, IsStop}
 use Rattle.com_lines.proofs.Places.{kind_at-kept, settled-kept}
 
 -- a place before another is settled

@@ -6,7 +6,7 @@ use Rattle.com_msg.specs.declared.framing.Framing.{Framing}
 use Rattle.com_msg.specs.declared.framing.Framing.TheVariants.{Marks, Lines}
 use Rattle.com_lines.specs.Faults.{kind_at, kind_of}
 use Rattle.com_lines.specs.Frames.{IsSettled}
-use Rattle.com_lines.specs.Reads.{HoldsReturn, IsClearSoFar}
+use Rattle.com_lines.specs.inner.Reads.{HoldsReturn, IsClearSoFar}
 use Rattle.com_lines.proofs.Runs.{last_of-get}
 
 -- what is wrong with a byte that comes after some bytes and before some

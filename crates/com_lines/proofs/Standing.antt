@@ -17,8 +17,8 @@ use Rattle.com_lines.specs.Bytes.{last_of}
 use Rattle.com_lines.specs.Faults.{kind_at}
 use Rattle.com_lines.specs.Frames.{Finished, Frames, IsFirstFault, IsSettledFault, IsStopped}
 use Rattle.com_lines.specs.Framers.{Framed, IsMemory, StandsFor, StandsIn, state_after}
-use Rattle.com_lines.specs.Reads.{IsClearSoFar, Reads}
-use Rattle.com_lines.specs.Readings.{HasRead, IsContinued, IsCutOff, IsFaulty, IsWhole}
+use Rattle.com_lines.specs.inner.Reads.{IsClearSoFar, Reads}
+use Rattle.com_lines.specs.inner.Readings.{HasRead, IsContinued, IsCutOff, IsFaulty, IsWhole}
 use Rattle.com_lines.proofs.Ends.{clear-whole}
 use Rattle.com_lines.proofs.Pieces.{stopped-more}
 use Rattle.com_lines.proofs.Stops.{ended-before_return, return-kind}

@@ -14,8 +14,8 @@ use Rattle.com_lines.specs.declared.reading.Reading.{Reading}
 use Rattle.com_lines.specs.Bytes.{ended, is_between, is_ending, is_inside, is_kept, last_of, run, tail_of}
 use Rattle.com_lines.specs.Faults.{kind_at, kind_of}
 use Rattle.com_lines.specs.Frames.{AreEnded, IsSettled, IsStopped}
-use Rattle.com_lines.specs.Reads.{HoldsReturn, Reads}
-use Rattle.com_lines.specs.Readings.{HasRead, IsSafe, IsStop, holds_return, is_return, next_kind}
+use Rattle.com_lines.specs.inner.Reads.{HoldsReturn, Reads}
+use Rattle.com_lines.specs.inner.Readings.{HasRead, IsSafe, IsStop, holds_return, is_return, next_kind}
 use Rattle.com_lines.proofs.Places.{IsRight, clear-before, kind_at-behind, kind_at-kept, kind_of-lines}
 use Rattle.com_lines.proofs.Runs.{before_run-push_yes, last_of-get}
 

@@ -16,8 +16,8 @@ use Rattle.com_lines.specs.declared.reading.Reading.{Reading}
 use Rattle.com_lines.specs.Bytes.{is_between, is_ending, is_skipped, last_of}
 use Rattle.com_lines.specs.Faults.{is_bad_byte, is_beside_end, is_long_message, is_long_segment, is_too_many}
 use Rattle.com_lines.specs.Frames.{HasSegments, ending_byte}
-use Rattle.com_lines.specs.Reads.{HoldsReturn, MayStand, Reads}
-use Rattle.com_lines.specs.Readings.{end_of, IsNext, IsSafe, holds_return, next_kind, open_message, skips, with_byte, with_character, with_message, with_segment}
+use Rattle.com_lines.specs.inner.Reads.{HoldsReturn, MayStand, Reads}
+use Rattle.com_lines.specs.inner.Readings.{end_of, IsNext, IsSafe, holds_return, next_kind, open_message, skips, with_byte, with_character, with_message, with_segment}
 use Rattle.com_lines.proofs.OneByte.{reads-between, reads-character, reads-end, reads-line_feed, reads-return}
 use Rattle.com_lines.proofs.Places.{IsRight}
 use Rattle.com_lines.proofs.Runs.{last_of-push}

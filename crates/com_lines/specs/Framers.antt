@@ -9,7 +9,7 @@ use Rattle.com_lines.specs.declared.reading.Reading.{Reading}
 use Rattle.com_lines.specs.declared.framer.State.{State}
 use Rattle.com_lines.specs.declared.framer.State.TheVariants.{Going, Faulted, NoMemory, Ended}
 use Rattle.com_lines.specs.Frames.{Finished, IsStopped}
-use Rattle.com_lines.specs.Readings.{HasRead, IsSafe}
+use Rattle.com_lines.specs.inner.Readings.{HasRead, IsSafe}
 
 -- a framer: how it stands, and what it keeps of the bytes
 pub record Framed : Type 0 where

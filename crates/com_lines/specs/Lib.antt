@@ -1,6 +1,5 @@
 pub mod Bytes
 pub mod Faults
 pub mod Frames
-pub mod Reads
-pub mod Readings
+pub mod inner
 pub mod Framers

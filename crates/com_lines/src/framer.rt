@@ -5,7 +5,7 @@ ghost use Rattle.com_msg.specs.declared.framing.FrameFault.{FrameFault};
 ghost use Rattle.com_msg.specs.declared.message.RawMessage.{RawMessage};
 ghost use Rattle.com_lines.specs.Frames.{Frames, IsSettledFault};
 ghost use Rattle.com_lines.specs.Framers.{HasFaulted, IsGoing, IsMemory, IsUnfinished, StandsFor, WantsMemory, state_after, state_at_end};
-ghost use Rattle.com_lines.specs.Readings.{IsContinued, IsCutOff, IsSafe};
+ghost use Rattle.com_lines.specs.inner.Readings.{IsContinued, IsCutOff, IsSafe};
 
 use crate::FeedError;
 use crate::reading::Reading;

@@ -3,7 +3,7 @@ ghost use Rattle.std.specs.Prelude.{◌≡◌, ◌+◌, ◌<◌, ◌≤◌, ◌�
 ghost use Rattle.com_text.specs.Text.{IsText, is_text_byte};
 ghost use Rattle.com_lines.specs.Bytes.{is_between, is_ending, is_skipped};
 ghost use Rattle.com_lines.specs.Faults.{is_bad_byte, is_long_message, is_long_segment, is_too_many};
-ghost use Rattle.com_lines.specs.Readings.{end_of, has_open, CanEnd, HasRead, IsContinued, IsCutOff, IsFaulty, IsWhole, IsNext, IsSafe, IsStop, holds_return, next_kind, open_message, with_byte, with_character, with_message, with_segment};
+ghost use Rattle.com_lines.specs.inner.Readings.{end_of, has_open, CanEnd, HasRead, IsContinued, IsCutOff, IsFaulty, IsWhole, IsNext, IsSafe, IsStop, holds_return, next_kind, open_message, with_byte, with_character, with_message, with_segment};
 
 use crate::encoding::{BETWEEN, GROUP_END, LINE_FEED, MESSAGE_END};
 use com_msg::{

@@ -7,7 +7,7 @@ use Rattle.toml.specs.declared.value.Value.{Value}
 use Rattle.toml.specs.Data.{Data, string, integer, float, boolean, datetime, array, table, Items, no_items, item, as_table, as_str}
 use Rattle.toml.specs.View.{view, items_view}
 use Rattle.com_text.specs.Name.{is_name}
-use Rattle.com_net.specs.Seen.{texts_in}
+use Rattle.com_net.specs.inner.Seen.{texts_in}
 use Rattle.com_net.specs.Values.{are_tables, tables_of, text_in, are_strings, strings_of}
 
 pub are_tables-item : (value : Data) (items : Items) → are_tables (item value items) ≡ (is_some (as_table value) && are_tables items)

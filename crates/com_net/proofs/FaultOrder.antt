@@ -12,8 +12,8 @@ use Rattle.com_net.specs.Places.{Place, places}
 use Rattle.com_net.specs.KeyFaults.{first_of, missing_key, wrong_kind, unknown_key, bad_name, bad_password}
 use Rattle.com_net.specs.TreeFaults.{tree_rows, bad_route}
 use Rattle.com_net.specs.Description.{told, told_tree, document_fault, IsRefusalBy}
-use Rattle.com_net.specs.Checks.{early_fault, late_fault}
-use Rattle.com_net.specs.Sound.{has_names, has_password}
+use Rattle.com_net.specs.inner.Checks.{early_fault, late_fault}
+use Rattle.com_net.specs.inner.Sound.{has_names, has_password}
 use Rattle.com_net.proofs.SoundTables.{neither, no_image, all_checked, all_passwords}
 use Rattle.com_net.proofs.FaultlessNets.{document_fault-parts}
 

@@ -37,8 +37,8 @@ use Rattle.com_net.specs.KeyFaults.{first_of, missing_key, wrong_kind, unknown_k
 use Rattle.com_net.specs.NameFaults.{twice_named, is_over, over_limit}
 use Rattle.com_net.specs.TreeFaults.{choose_of, row_of, rows_below_fourth, queue_rows, tree_rows, bad_tree, leaf_with, bad_route}
 use Rattle.com_net.specs.Description.{told, told_tree, document_fault, framing_of, terminal_of, unit_of, leaf_flags, parts_of}
-use Rattle.com_net.specs.Sound.{has_path, has_input_name, has_names, has_password}
-use Rattle.com_net.specs.Checks.{early_fault, late_fault}
+use Rattle.com_net.specs.inner.Sound.{has_path, has_input_name, has_names, has_password}
+use Rattle.com_net.specs.inner.Checks.{early_fault, late_fault}
 use Rattle.com_net.proofs.SoundTables.{neither, no_image, all_checked, all_passwords}
 use Rattle.com_net.proofs.Outlines.{rows-append, rows_of_queues, is_outline-rows}
 use Rattle.com_net.proofs.ApartNames.{apart_names}

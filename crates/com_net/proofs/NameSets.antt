@@ -10,7 +10,7 @@ use Rattle.com_net.specs.declared.keys.Key.TheVariants as key
 use Rattle.com_net.specs.declared.places.TableAt.{TableAt}
 use Rattle.com_net.specs.Values.{string_at}
 use Rattle.com_net.specs.Places.{Place}
-use Rattle.com_net.specs.Seen.{seen}
+use Rattle.com_net.specs.inner.Seen.{seen}
 use Rattle.com_net.specs.NameFaults.{names_of, clashes, clash_behind}
 
 -- the names that a set of references has

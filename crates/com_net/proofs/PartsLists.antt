@@ -16,8 +16,8 @@ use Rattle.com_net.specs.Values.{string_at, tables_at}
 use Rattle.com_net.specs.Places.{Place, places_from, queues_from, places, below, element}
 use Rattle.com_net.specs.TreeFaults.{tree_rows}
 use Rattle.com_net.specs.Description.{terminal_of, unit_of, parts_of}
-use Rattle.com_net.specs.Sound.{has_password}
-use Rattle.com_net.specs.Lists.{terminals_of, passwords_of, units_of, parts_from}
+use Rattle.com_net.specs.inner.Sound.{has_password}
+use Rattle.com_net.specs.inner.Lists.{terminals_of, passwords_of, units_of, parts_from}
 
 -- the tables of a document in four parts
 abbrev pub top_of : Members → Place

@@ -8,7 +8,7 @@ use Rattle.com_net.specs.declared.keys.Key.TheVariants as key
 use Rattle.com_net.specs.Network.{is_file_name}
 use Rattle.com_net.specs.Values.{string_at}
 use Rattle.com_net.specs.Places.{Place}
-use Rattle.com_net.specs.Sound.{has_path, has_input_name, has_names}
+use Rattle.com_net.specs.inner.Sound.{has_path, has_input_name, has_names}
 
 pub record IsSoundTerminal (content : Members) : Type 0 where
   pub name : is_name (string_at key.Name content) ≡ true

@@ -16,7 +16,7 @@ use Rattle.com_net.specs.Keys.{keys_of, queue_keys}
 use Rattle.com_net.specs.Values.{value_at, has, string_at, strings_of, strings_in, strings_at, are_strings, are_steps, is_string, is_path, is_of_kind}
 use Rattle.com_net.specs.Places.{Place, key_path}
 use Rattle.com_net.specs.KeyFaults.{is_allowed, is_needed_key, is_missing, is_wrong, has_wrong_kind, first_of, bad_text, bad_part, bad_name_in, bad_password_in, bad_value_at, bad_value, missing_key, wrong_kind, bad_name, bad_password}
-use Rattle.com_net.specs.Sound.{is_name_path, has_path, has_input_name, has_names, has_password}
+use Rattle.com_net.specs.inner.Sound.{is_name_path, has_path, has_input_name, has_names, has_password}
 
 -- where there is neither, there is no first and no second
 pub neither : {T : Type 0} (o p : Option T) → option_or o p ≡ None → (o ≡ None) × (p ≡ None)

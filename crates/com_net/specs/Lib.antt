@@ -1,15 +1,11 @@
 pub mod Parts
 pub mod Network
-pub mod Inside
+pub mod inner
 pub mod Numbers
 pub mod Keys
 pub mod Values
 pub mod Places
-pub mod Seen
 pub mod KeyFaults
-pub mod Checks
 pub mod TreeFaults
 pub mod NameFaults
 pub mod Description
-pub mod Sound
-pub mod Lists

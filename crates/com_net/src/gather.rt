@@ -8,9 +8,9 @@ ghost use Rattle.com_text.specs.Name.{is_name};
 ghost use Rattle.com_net.specs.Network.{is_password, is_file_name, IsNet};
 ghost use Rattle.com_net.specs.Values.{string_at};
 ghost use Rattle.com_net.specs.Description.{terminal_of, feed_of, framing_of, unit_of, schedule_of, leaf_flags};
-ghost use Rattle.com_net.specs.Lists.{terminals_of, passwords_of, units_of, parts_from};
-ghost use Rattle.com_net.specs.Sound.{is_name_path, has_input_name, has_path, has_names, has_password};
-ghost use Rattle.com_net.specs.Seen.{seen, gathered_parts};
+ghost use Rattle.com_net.specs.inner.Lists.{terminals_of, passwords_of, units_of, parts_from};
+ghost use Rattle.com_net.specs.inner.Sound.{is_name_path, has_input_name, has_path, has_names, has_password};
+ghost use Rattle.com_net.specs.inner.Seen.{seen, gathered_parts};
 
 use crate::keys::{Key, Section};
 use crate::net::{Feed, Net, Terminal, UnitRow};

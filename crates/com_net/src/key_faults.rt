@@ -8,9 +8,9 @@ ghost use Rattle.com_net.specs.Network.{is_password, is_file_name};
 ghost use Rattle.com_net.specs.Keys.{keys_of};
 ghost use Rattle.com_net.specs.Values.{strings_of};
 ghost use Rattle.com_net.specs.Places.{key_path};
-ghost use Rattle.com_net.specs.Seen.{seen};
+ghost use Rattle.com_net.specs.inner.Seen.{seen};
 ghost use Rattle.com_net.specs.KeyFaults.{is_allowed, is_needed_key, is_missing, has_wrong_kind, is_known, names_in, shown, first_of, bad_part, bad_text, unless, bad_value_at, bad_name_in, bad_password_in, unknown_key, bad_name, bad_password};
-ghost use Rattle.com_net.specs.Checks.{fault_at};
+ghost use Rattle.com_net.specs.inner.Checks.{fault_at};
 
 use crate::keys::{Key, Section, key_text, keys_of};
 use crate::paths::{below, element, joined};

@@ -6,7 +6,7 @@ ghost use Rattle.com_text.specs.Text.{IsText};
 ghost use Rattle.toml.specs.View.{table_view};
 ghost use Rattle.com_net.specs.declared.keys.Key.TheVariants as key;
 ghost use Rattle.com_net.specs.Values.{string_at};
-ghost use Rattle.com_net.specs.Seen.{seen};
+ghost use Rattle.com_net.specs.inner.Seen.{seen};
 ghost use Rattle.com_net.specs.NameFaults.{is_terminal, is_unit, taken, twice_named, is_over, over_limit};
 
 use crate::key_faults::key_path;

@@ -75,7 +75,7 @@ impl Model for Net {
     ghost Value = { Parts };
 
     ghost use Rattle.com_net.specs.Network.{IsNet, names_of_terminals, names_of_units};
-    ghost use Rattle.com_net.specs.Inside.{parts};
+    ghost use Rattle.com_net.specs.inner.Inside.{parts};
 
     ghost view = { parts };
 

@@ -6,7 +6,7 @@ ghost use Rattle.com_net.specs.declared.keys.Section.TheVariants as section;
 ghost use Rattle.com_net.specs.declared.keys.Key.TheVariants as key;
 ghost use Rattle.com_net.specs.Values.{tables_of, tables_at};
 ghost use Rattle.com_net.specs.Places.{places, places_from, queues_from, below};
-ghost use Rattle.com_net.specs.Seen.{seen};
+ghost use Rattle.com_net.specs.inner.Seen.{seen};
 
 use crate::keys::{Key, Section};
 use crate::paths::{below, element};

@@ -3,9 +3,9 @@ ghost use Rattle.std.specs.Prelude.{◌≡◌, true, false, Some, None, map, opt
 ghost use Rattle.std.specs.List.{list_all};
 ghost use Rattle.toml.specs.View.{table_view};
 ghost use Rattle.com_net.specs.Description.{document_of, document_fault, is_too_long, parts_of, net_of, net_fault_of, IsRefusalBy, IsRefusalOf, IsMemory};
-ghost use Rattle.com_net.specs.Checks.{early_fault, late_fault};
-ghost use Rattle.com_net.specs.Sound.{has_names};
-ghost use Rattle.com_net.specs.Seen.{seen};
+ghost use Rattle.com_net.specs.inner.Checks.{early_fault, late_fault};
+ghost use Rattle.com_net.specs.inner.Sound.{has_names};
+ghost use Rattle.com_net.specs.inner.Seen.{seen};
 
 use crate::fault::{MAX_DESCRIPTION, NetError, NetFault, NetKind};
 use crate::gather::gather;

@@ -7,8 +7,8 @@ ghost use Rattle.com_net.specs.declared.keys.Key.TheVariants as key;
 ghost use Rattle.com_net.specs.Places.{key_path};
 ghost use Rattle.com_net.specs.KeyFaults.{first_of};
 ghost use Rattle.com_net.specs.TreeFaults.{leaf_with, leads_to_no_leaf, leads_to_no_node, bad_route};
-ghost use Rattle.com_net.specs.Sound.{is_name_path, has_path, has_names};
-ghost use Rattle.com_net.specs.Seen.{seen, texts_in};
+ghost use Rattle.com_net.specs.inner.Sound.{is_name_path, has_path, has_names};
+ghost use Rattle.com_net.specs.inner.Seen.{seen, texts_in};
 
 use crate::key_faults::path_of_key;
 use crate::keys::{Key, Section};

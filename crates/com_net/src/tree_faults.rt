@@ -9,8 +9,8 @@ ghost use Rattle.com_net.specs.declared.keys.Key.TheVariants as key;
 ghost use Rattle.com_net.specs.Values.{string_at};
 ghost use Rattle.com_net.specs.TreeFaults.{choose_of, queue_rows, tree_rows, row_paths, tree_path, bad_tree};
 ghost use Rattle.com_net.specs.Description.{told_tree, IsRefusalBy};
-ghost use Rattle.com_net.specs.Sound.{has_names};
-ghost use Rattle.com_net.specs.Seen.{seen};
+ghost use Rattle.com_net.specs.inner.Sound.{has_names};
+ghost use Rattle.com_net.specs.inner.Seen.{seen};
 
 use crate::fault::{NetError, NetFault, NetKind};
 use crate::keys::{Key, Section};

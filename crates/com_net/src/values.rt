@@ -3,8 +3,8 @@ ghost use Rattle.std.specs.Prelude.{◌≡◌, true, length, option_map, option_
 ghost use Rattle.toml.specs.View.{view, items_view, table_view};
 ghost use Rattle.com_text.specs.Name.{is_name};
 ghost use Rattle.com_text.specs.Text.{IsText};
-ghost use Rattle.com_net.specs.Sound.{is_name_path};
-ghost use Rattle.com_net.specs.Seen.{texts_in};
+ghost use Rattle.com_net.specs.inner.Sound.{is_name_path};
+ghost use Rattle.com_net.specs.inner.Seen.{texts_in};
 ghost use Rattle.com_net.specs.Values.{value_at, has, text_in, string_at, flag_at, are_tables, tables_of, tables_in, tables_at, are_strings, strings_of, strings_in, strings_at, is_table_array, are_steps, is_path, is_word, is_string, is_boolean, is_one, is_of_kind};
 
 use crate::keys::{Key, key_text};

@@ -23,7 +23,9 @@ ghost use Rattle.com_tree.specs.Places.{top_of};
 ghost use Rattle.com_events.specs.declared.reply.Reply.TheVariants as reply;
 ghost use Rattle.com_events.specs.declared.call.Call.TheVariants as made;
 ghost use Rattle.com_events.specs.Calls.{IsReplyTo};
+ghost use Rattle.com_cd.specs.InputArea.{in_field};
 ghost use Rattle.com_cd.specs.OutputArea.{IsOutputArea};
+ghost use Rattle.com_cd.specs.declared.input_area.InField.TheVariants as input;
 ghost use Rattle.com_msg.specs.declared.rest.Kind.{Kind as AKind};
 ghost use Rattle.com_cd.specs.Status.{with_input_status};
 ghost use Rattle.com_recv.specs.Incoming.{designated};
@@ -40,7 +42,7 @@ use com_events::Reply;
 use com_msg::{Kind, MAX_SIZE, Part};
 use com_recv::{Taken, designated};
 use com_send::{find_destination, is_key};
-use com_text::Text;
+use com_text::{FIELD_LENGTH, Text};
 use com_tree::Node;
 use std::alloc::AllocError;
 
@@ -170,8 +172,7 @@ impl State {
         ensures switched { (result, self.new) ≡ switch_input self.old on true area key.now }
         ensures reply { IsReplyTo (made.SwitchInput on true area key.now) result }
     {
-        let source = area.get(InField::Source).try_into().unwrap();
-        let Some(terminal) = find_destination(self.outs.destinations(), source) else {
+        let Some(terminal) = find_destination(self.outs.destinations(), source_field(area)) else {
             return told(area, Status::S20);
         };
         if !is_key(key, &self.net.terminals.as_slice()[terminal].password) {
@@ -190,6 +191,14 @@ impl State {
         let top = self.net.tree.top(node);
         is_key(key, &self.net.queue_passwords.as_slice()[top as usize])
     }
+}
+
+/// Returns SYMBOLIC SOURCE of an area.
+fn source_field(area: &InArea) -> &[u8; FIELD_LENGTH]
+    ensures { result.now ≡ in_field input.Source area.now }
+{
+    // The field has just this length.
+    area.get(InField::Source).try_into().unwrap()
 }
 
 /// Returns the reply with an area that has a status key.

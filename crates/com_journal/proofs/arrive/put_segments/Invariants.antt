@@ -1,7 +1,7 @@
 use Rattle.std.proofs.Common.{◌≡◌, ◌∷◌, length, map, take}
 use Rattle.std.specs.Fmt.{decimal}
 use Rattle.com_text.specs.Counted.{counted_field}
-use Rattle.com_journal.specs.Writing.{written}
+use Rattle.com_journal.specs.inner.Writing.{written}
 use Rattle.com_journal.proofs.arrive.put_segments.Given as goal
 
 -- the number and the fields so far

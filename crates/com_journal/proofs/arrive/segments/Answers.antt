@@ -1,7 +1,7 @@
 use Rattle.std.proofs.Common.{◌≡◌, ◌+◌, ◌-◌, suc, Some, [], ◌∷◌, ◌++◌, sym, ap, ◌∙◌, arith, rules}
 use Rattle.std.proofs.lemmas.Result.{err_from_is_err_and}
 use Rattle.com_msg.specs.declared.message.TheConstants.{MAX_SEGMENT_LENGTH}
-use Rattle.com_journal.specs.Reading.{text_at, segments_at}
+use Rattle.com_journal.specs.inner.Reading.{text_at, segments_at}
 use Rattle.com_journal.proofs.Segments.{with_front, fails_along, more_read, none_read, all_read}
 use Rattle.com_journal.proofs.arrive.segments.Goals as goal
 

@@ -1,5 +1,5 @@
 use Rattle.std.proofs.Common.{◌≡◌, ◌-◌, ℕ, List, ◌++◌, option_map}
-use Rattle.com_journal.specs.Reading.{segments_at}
+use Rattle.com_journal.specs.inner.Reading.{segments_at}
 use Rattle.com_journal.proofs.arrive.segments.Given as goal
 
 -- the segments so far, and those that are left to read after them

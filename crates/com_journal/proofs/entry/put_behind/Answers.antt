@@ -1,7 +1,7 @@
 use Rattle.std.proofs.Common.{ap, ◌∙◌, List, ℕ, ◌++◌, ◌∷◌, []}
 use Rattle.std.proofs.lemmas.Result.{on_ok_weaker}
 use Rattle.com_journal.specs.Lines.{reply_fields}
-use Rattle.com_journal.specs.Writing.{written}
+use Rattle.com_journal.specs.inner.Writing.{written}
 use Rattle.com_journal.proofs.LineLaws.{written_behind}
 use Rattle.com_journal.proofs.entry.put_behind.Goals as goal
 

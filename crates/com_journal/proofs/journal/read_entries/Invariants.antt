@@ -1,5 +1,5 @@
 use Rattle.std.proofs.Common.{◌+◌, ◌≤◌, length}
-use Rattle.com_journal.specs.Loops.{HasRead}
+use Rattle.com_journal.specs.inner.Loops.{HasRead}
 use Rattle.com_journal.proofs.journal.read_entries.Given as goal
 
 -- the lines before the rest are read, of which there are no more than bytes

@@ -1,5 +1,5 @@
 use Rattle.std.proofs.Common.{◌∙◌}
-use Rattle.com_journal.specs.Reading.{is_space}
+use Rattle.com_journal.specs.inner.Reading.{is_space}
 use Rattle.com_journal.proofs.Fields.{place_or_end}
 use Rattle.com_journal.proofs.line.word_length.Goals as goal
 

@@ -1,5 +1,5 @@
 use Rattle.std.proofs.Common.{◌∙◌, ap, List, ℕ, []}
-use Rattle.com_journal.specs.Writing.{with_entry}
+use Rattle.com_journal.specs.inner.Writing.{with_entry}
 use Rattle.com_journal.proofs.LineLaws.{spelled-line, with_entry-line}
 use Rattle.com_journal.proofs.single.entry_line.Goals as goal
 

@@ -1,9 +1,9 @@
 use Rattle.std.proofs.Common.{◌≡◌, ◌++◌, true, drop, map}
 use Rattle.std.specs.List.{list_all, flat_map}
-use Rattle.com_net.specs.Seen.{seen}
+use Rattle.com_net.specs.inner.Seen.{seen}
 use Rattle.com_net.specs.Description.{leaf_flags}
-use Rattle.com_net.specs.Lists.{terminals_of, passwords_of, units_of}
-use Rattle.com_net.specs.Sound.{has_names, has_password}
+use Rattle.com_net.specs.inner.Lists.{terminals_of, passwords_of, units_of}
+use Rattle.com_net.specs.inner.Sound.{has_names, has_password}
 use Rattle.com_net.proofs.gather.gather.Given as goal
 
 -- with what the tables that are left give, all is there

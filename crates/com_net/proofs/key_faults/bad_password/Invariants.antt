@@ -1,5 +1,5 @@
 use Rattle.std.proofs.Common.{◌≡◌, drop}
-use Rattle.com_net.specs.Seen.{seen}
+use Rattle.com_net.specs.inner.Seen.{seen}
 use Rattle.com_net.specs.KeyFaults.{first_of, bad_value_at, bad_password_in}
 use Rattle.com_net.proofs.key_faults.bad_password.Given as goal
 

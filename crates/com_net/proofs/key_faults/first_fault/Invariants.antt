@@ -1,7 +1,7 @@
 use Rattle.std.proofs.Common.{◌≡◌, drop, map}
-use Rattle.com_net.specs.Seen.{seen}
+use Rattle.com_net.specs.inner.Seen.{seen}
 use Rattle.com_net.specs.KeyFaults.{first_of}
-use Rattle.com_net.specs.Checks.{fault_at}
+use Rattle.com_net.specs.inner.Checks.{fault_at}
 use Rattle.com_net.proofs.key_faults.first_fault.Given as goal
 
 -- what is left decides

@@ -1,5 +1,5 @@
 use Rattle.std.proofs.Common.{◌≡◌, ◌∙◌, ◌+◌, ◌++◌, [], ◌∷◌, false, map, take, drop, sym, ap, arith}
-use Rattle.com_net.specs.Seen.{seen}
+use Rattle.com_net.specs.inner.Seen.{seen}
 use Rattle.com_net.specs.NameFaults.{is_terminal, is_unit, clashes, clash_behind}
 use Rattle.com_net.proofs.NameSets.{names_of_more, one_more, from_here, goes_on}
 use Rattle.com_net.proofs.name_faults.twice_named.Goals as goal

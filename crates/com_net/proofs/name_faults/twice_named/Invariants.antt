@@ -1,5 +1,5 @@
 use Rattle.std.proofs.Common.{◌≡◌, map, take, drop}
-use Rattle.com_net.specs.Seen.{seen}
+use Rattle.com_net.specs.inner.Seen.{seen}
 use Rattle.com_net.specs.NameFaults.{is_terminal, is_unit, names_of, clash_behind, twice_named}
 use Rattle.com_net.proofs.NameSets.{known}
 use Rattle.com_net.proofs.name_faults.twice_named.Given as goal

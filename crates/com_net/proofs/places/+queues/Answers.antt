@@ -1,7 +1,7 @@
 use Rattle.std.proofs.Common.{◌∙◌, ◌+◌, map, drop, sym, append-nil, arith}
 use Rattle.toml.specs.View.{items_view, table_view}
 use Rattle.com_net.specs.Values.{tables_of}
-use Rattle.com_net.specs.Seen.{seen}
+use Rattle.com_net.specs.inner.Seen.{seen}
 use Rattle.com_net.proofs.Walks.{next_table, skip_value, no_tables_left, no_queues, kept_queue}
 use Rattle.com_net.proofs.places.+queues.Goals.{push_queues-in-Some+in_ok-element+in_ok-push_queue, push_queues-in_default}
 use Rattle.com_net.proofs.places.+queues.Goals as goal

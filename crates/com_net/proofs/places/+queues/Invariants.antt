@@ -2,7 +2,7 @@ use Rattle.std.proofs.Common.{◌≡◌, ◌+◌, ◌*◌, ◌≤◌, ◌++◌, 
 use Rattle.toml.specs.View.{items_view}
 use Rattle.com_net.specs.Values.{tables_of}
 use Rattle.com_net.specs.Places.{queues_from}
-use Rattle.com_net.specs.Seen.{seen}
+use Rattle.com_net.specs.inner.Seen.{seen}
 use Rattle.com_net.proofs.places.+queues.Given as goal
 
 abbrev pub decreases-push_queues : goal.decreases-push_queues

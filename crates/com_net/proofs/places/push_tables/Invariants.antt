@@ -2,7 +2,7 @@ use Rattle.std.proofs.Common.{◌≡◌, ◌+◌, ◌≤◌, ◌++◌, map, drop
 use Rattle.toml.specs.View.{items_view}
 use Rattle.com_net.specs.Values.{tables_of}
 use Rattle.com_net.specs.Places.{places_from}
-use Rattle.com_net.specs.Seen.{seen}
+use Rattle.com_net.specs.inner.Seen.{seen}
 use Rattle.com_net.proofs.places.push_tables.Given as goal
 
 -- with those that are left, all are there

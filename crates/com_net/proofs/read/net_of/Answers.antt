@@ -9,9 +9,9 @@ use Rattle.com_net.specs.declared.places.TableAt.{TableAt}
 use Rattle.com_net.specs.Places.{places}
 use Rattle.com_net.specs.TreeFaults.{tree_rows}
 use Rattle.com_net.specs.Description.{document_fault, told_tree, parts_of, IsRefusalBy}
-use Rattle.com_net.specs.Checks.{early_fault, late_fault}
-use Rattle.com_net.specs.Lists.{parts_from}
-use Rattle.com_net.specs.Seen.{seen, gathered_parts}
+use Rattle.com_net.specs.inner.Checks.{early_fault, late_fault}
+use Rattle.com_net.specs.inner.Lists.{parts_from}
+use Rattle.com_net.specs.inner.Seen.{seen, gathered_parts}
 use Rattle.com_net.proofs.FaultOrder.{names_sound, passwords_sound, no_fault, refused_tree, none_told}
 use Rattle.com_net.proofs.FaultlessNets.{parts_are_net}
 use Rattle.com_net.proofs.Outlines.{is_outline-rows}

@@ -1,10 +1,10 @@
 use Rattle.std.proofs.Common.{◌≡◌, ◌+◌, None, Some, map, drop, sym, ap, ◌∙◌, arith}
 use Rattle.std.specs.List.{list_all}
 use Rattle.std.proofs.lemmas.Bool.{and_parts}
-use Rattle.com_net.specs.Seen.{seen}
+use Rattle.com_net.specs.inner.Seen.{seen}
 use Rattle.com_net.specs.KeyFaults.{first_of}
 use Rattle.com_net.specs.TreeFaults.{bad_route}
-use Rattle.com_net.specs.Sound.{has_names}
+use Rattle.com_net.specs.inner.Sound.{has_names}
 use Rattle.com_net.proofs.FaultOrder.{first_here, first_behind}
 use Rattle.com_net.proofs.NameSets.{from_here}
 use Rattle.com_net.proofs.routes.bad_route.Goals as goal

@@ -1,9 +1,9 @@
 use Rattle.std.proofs.Common.{◌≡◌, true, drop, map}
 use Rattle.std.specs.List.{list_all}
-use Rattle.com_net.specs.Seen.{seen}
+use Rattle.com_net.specs.inner.Seen.{seen}
 use Rattle.com_net.specs.KeyFaults.{first_of}
 use Rattle.com_net.specs.TreeFaults.{bad_route}
-use Rattle.com_net.specs.Sound.{has_names}
+use Rattle.com_net.specs.inner.Sound.{has_names}
 use Rattle.com_net.proofs.routes.bad_route.Given as goal
 
 -- what is left decides

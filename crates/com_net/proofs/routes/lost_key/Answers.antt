@@ -1,4 +1,4 @@
-use Rattle.com_net.specs.Seen.{seen}
+use Rattle.com_net.specs.inner.Seen.{seen}
 use Rattle.com_net.proofs.SoundParts.{sound_terminal, sound_unit}
 use Rattle.com_net.proofs.routes.lost_key.Goals as goal
 

@@ -1,7 +1,7 @@
 use Rattle.std.proofs.Common.{◌≡◌, drop, map}
 use Rattle.std.specs.Prelude.{slice_get}
 use Rattle.std.specs.List.{flat_map}
-use Rattle.com_net.specs.Seen.{seen}
+use Rattle.com_net.specs.inner.Seen.{seen}
 use Rattle.com_net.specs.TreeFaults.{row_paths}
 use Rattle.com_net.proofs.tree_faults.path_of_row.Given as goal
 

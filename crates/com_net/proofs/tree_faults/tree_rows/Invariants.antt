@@ -1,8 +1,8 @@
 use Rattle.std.proofs.Common.{◌≡◌, ◌++◌, true, drop, map}
 use Rattle.std.specs.List.{list_all}
-use Rattle.com_net.specs.Seen.{seen}
+use Rattle.com_net.specs.inner.Seen.{seen}
 use Rattle.com_net.specs.TreeFaults.{tree_rows}
-use Rattle.com_net.specs.Sound.{has_names}
+use Rattle.com_net.specs.inner.Sound.{has_names}
 use Rattle.com_net.proofs.tree_faults.tree_rows.Given as goal
 
 -- with those of the tables that are left, all are there

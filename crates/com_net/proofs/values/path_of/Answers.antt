@@ -8,8 +8,8 @@ use Rattle.toml.specs.declared.value.Value.{Value}
 use Rattle.toml.specs.View.{view}
 use Rattle.com_text.specs.Name.{is_name}
 use Rattle.com_net.specs.Values.{text_in}
-use Rattle.com_net.specs.Seen.{texts_in}
-use Rattle.com_net.specs.Sound.{is_name_path}
+use Rattle.com_net.specs.inner.Seen.{texts_in}
+use Rattle.com_net.specs.inner.Sound.{is_name_path}
 use Rattle.com_net.proofs.Arrays.{named_at}
 use Rattle.com_net.proofs.values.path_of.Goals as goal
 

@@ -1,5 +1,5 @@
 use Rattle.std.proofs.Common.{◌≡◌, ◌+◌, take}
-use Rattle.com_net.specs.Seen.{texts_in}
+use Rattle.com_net.specs.inner.Seen.{texts_in}
 use Rattle.com_net.proofs.values.path_of.Given as goal
 
 -- the path so far

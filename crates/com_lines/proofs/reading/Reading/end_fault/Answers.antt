@@ -1,5 +1,5 @@
 use Rattle.std.proofs.Common.{◌≡◌, ◌∙◌, true, false, refl, sym}
-use Rattle.com_lines.specs.Readings.{has_open, holds_return}
+use Rattle.com_lines.specs.inner.Readings.{has_open, holds_return}
 use Rattle.com_lines.proofs.Ends.{faulty-before, faulty-many}
 use Rattle.com_lines.proofs.reading.Reading.end_fault.Goals as goal
 

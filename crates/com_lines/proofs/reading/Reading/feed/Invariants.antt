@@ -1,5 +1,5 @@
 use Rattle.std.proofs.Common.{◌≡◌, length, take}
-use Rattle.com_lines.specs.Readings.{IsContinued, IsSafe}
+use Rattle.com_lines.specs.inner.Readings.{IsContinued, IsSafe}
 use Rattle.com_lines.proofs.reading.Reading.feed.Given as goal
 
 -- the piece was read up to here, and the messages that it ends were added

@@ -1,7 +1,7 @@
 use Rattle.std.proofs.Common.{◌≡◌, ◌∙◌, Some, None, Err, ap, sym}
 use Rattle.std.proofs.lemmas.Result.{on_ok_weaker, err_from_is_err_and}
 use Rattle.com_lines.specs.declared.reading.FeedError.TheVariants.{Fault}
-use Rattle.com_lines.specs.Readings.{IsNext}
+use Rattle.com_lines.specs.inner.Readings.{IsNext}
 use Rattle.com_lines.proofs.Pieces.{continued-none, continued-some}
 use Rattle.com_lines.proofs.reading.Reading.feed_byte.Goals as goal
 

@@ -1,6 +1,6 @@
 use Rattle.std.proofs.Common.{◌≡◌, ◌∙◌, true, false, refl, sym}
 use Rattle.std.proofs.lemmas.Result.{on_ok_weaker}
-use Rattle.com_lines.specs.Readings.{CanEnd, has_open}
+use Rattle.com_lines.specs.inner.Readings.{CanEnd, has_open}
 use Rattle.com_lines.proofs.Ends.{whole-last, whole-none}
 use Rattle.com_lines.proofs.reading.Reading.finish.Goals as goal
 

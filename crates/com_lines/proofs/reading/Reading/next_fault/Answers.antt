@@ -1,5 +1,5 @@
 use Rattle.std.proofs.Common.{◌≡◌, true, refl, sym, ◌∙◌}
-use Rattle.com_lines.specs.Readings.{holds_return}
+use Rattle.com_lines.specs.inner.Readings.{holds_return}
 use Rattle.com_lines.proofs.Stops.{stop-before, stop-here}
 use Rattle.com_lines.proofs.reading.Reading.next_fault.Goals.{else-holds_return-via-then-holds_return+else-byte-ne-LINE_FEED, else-holds_return-via-else-holds_return}
 use Rattle.com_lines.proofs.reading.Reading.next_fault.Goals as goal

@@ -1,7 +1,7 @@
 use Rattle.std.proofs.Common.{◌≡◌, true, false, Some, None, sym, ◌∙◌}
 use Rattle.com_text.specs.Text.{is_text_byte}
 use Rattle.com_lines.specs.Bytes.{is_between}
-use Rattle.com_lines.specs.Readings.{end_of}
+use Rattle.com_lines.specs.inner.Readings.{end_of}
 use Rattle.com_lines.proofs.Takes.{next-character, next-message, next-segment, next-skip, safe-segment}
 use Rattle.com_lines.proofs.reading.Reading.take_in.Goals as goal
 

@@ -28,8 +28,8 @@ use Rattle.com_msg.specs.declared.rest.TheConstants.{MAX_SIZE}
 use Rattle.com_msg.specs.declared.sending.TheConstants.{MAX_ITEM_LENGTH, MAX_LINES}
 use Rattle.com_msg.specs.declared.message.TheConstants.{MAX_SEGMENTS, MAX_SEGMENT_LENGTH, MAX_MESSAGE_LENGTH}
 use Rattle.com_events.specs.declared.call.TheConstants.{MAX_KEY_LENGTH}
-use Rattle.com_journal.specs.Choices.{kind_of, wait_of, switch_of, input_of, end_of, stop_of, plain_end_of, frame_of}
-use Rattle.com_journal.specs.Outcomes.{◌>>=◌}
+use Rattle.com_journal.specs.inner.Choices.{kind_of, wait_of, switch_of, input_of, end_of, stop_of, plain_end_of, frame_of}
+use Rattle.com_journal.specs.inner.Outcomes.{◌>>=◌}
 
 -- what follows these bytes at the front
 abbrev pub behind : List ℕ → List ℕ → Option (List ℕ)

@@ -16,7 +16,7 @@ use Rattle.com_lines.specs.declared.reading.TheConstants.{MAX_MESSAGES}
 use Rattle.com_lines.specs.Bytes.{is_ending, last_of}
 use Rattle.com_lines.specs.Faults.{is_bad_byte, is_long_message, is_long_segment, is_too_many}
 use Rattle.com_lines.specs.Frames.{Frames, IsStopped}
-use Rattle.com_lines.specs.Reads.{MayStand, Reads, opened}
+use Rattle.com_lines.specs.inner.Reads.{MayStand, Reads, opened}
 
 -- the message that has not ended has these segments and this text, and the numbers are those of the
 -- bytes and the messages

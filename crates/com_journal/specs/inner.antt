@@ -1,0 +1,5 @@
+pub mod Choices
+pub mod Outcomes
+pub mod Reading
+pub mod Writing
+pub mod Loops

@@ -1,0 +1,5 @@
+pub mod Inside
+pub mod Seen
+pub mod Checks
+pub mod Sound
+pub mod Lists
