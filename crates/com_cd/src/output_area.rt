@@ -4,8 +4,8 @@ ghost use Rattle.com_text.specs.Text.{IsText};
 ghost use Rattle.com_cd.specs.Status.{with_output_status};
 ghost use Rattle.com_cd.specs.OutputArea.{IsFieldOf, IsOutputArea, destination_count, occurrences_of, opening_output, out_field, out_start, out_width, set_out};
 
-use crate::{STATUS_LENGTH, Status};
 use crate::parts::write_part;
+use crate::{STATUS_LENGTH, Status};
 use com_text::{FIELD_LENGTH, is_text, number_of};
 use std::marker::Model;
 

@@ -68,8 +68,8 @@ all_parts (queue ∷ queues) from ws each =
     let start : from + 0 ≡ from = omega arith in
     let here : queue ≡ filter (is_on from) ws = rw start at (each 0 (omega arith)) in
     let rest = all_parts queues (suc from) ws (λ leaf within.
-        let next : suc from + leaf ≡ from + suc leaf = omega arith in
-        rw next (each (suc leaf) (omega (arith, within)))) in
+    let next : suc from + leaf ≡ from + suc leaf = omega arith in
+    rw next (each (suc leaf) (omega (arith, within)))) in
     ap (λ q. q ++ all_of queues) here ∙ ap (λ r. filter (is_on from) ws ++ r) rest
 
 no_parts : (from n : ℕ) → parts from n [] ≡ []
@@ -133,6 +133,6 @@ ordered_parts n (w ∷ ws) on pairs =
 pub ordered : (queues : List (List Waiting)) (waiting : List Waiting) → AreQueuesOf queues waiting → by_arrival (all_of queues) ≡ waiting
 ordered queues waiting are =
     let each : (leaf : ℕ) → leaf < length queues → get_or queues leaf [] ≡ filter (is_on (0 + leaf)) waiting = λ leaf within.
-        let same : 0 + leaf ≡ leaf = omega arith in
-        rw same (are.each leaf (omega (arith, within, are.size))) in
+    let same : 0 + leaf ≡ leaf = omega arith in
+    rw same (are.each leaf (omega (arith, within, are.size))) in
     ap by_arrival (all_parts queues 0 waiting each) ∙ (ap (λ n. by_arrival (parts 0 n waiting)) are.size ∙ ordered_parts 64 waiting are.on are.in_order)
