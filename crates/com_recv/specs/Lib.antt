@@ -2,4 +2,3 @@ pub mod Incoming
 pub mod Areas
 pub mod Receiving
 pub mod Giving
-pub mod inner

@@ -172,7 +172,7 @@ impl State {
         ensures switched { (result, self.new) ≡ switch_input self.old on true area key.now }
         ensures reply { IsReplyTo (made.SwitchInput on true area key.now) result }
     {
-        let Some(terminal) = find_destination(self.outs.destinations(), source_field(area)) else {
+        let Some(terminal) = find_destination(self.outs.destinations(), source_field(&area)) else {
             return told(area, Status::S20);
         };
         if !is_key(key, &self.net.terminals.as_slice()[terminal].password) {
