@@ -15,6 +15,7 @@ ghost use Rattle.std.specs.Prelude.{
 };
 ghost use Rattle.std.specs.Option.{option_copied};
 ghost use Rattle.com_msg.specs.Rendering.{IsAdvance};
+ghost use Rattle.com_cd.specs.Designation.{path_fields};
 ghost use Rattle.com_events.specs.Calls.{IsWellFormed, IsReplyTo, AreNames};
 ghost use Rattle.com_events.specs.declared.call.Call.TheVariants as made;
 ghost use Rattle.com_recv.specs.Areas.{path_of_leaf};
