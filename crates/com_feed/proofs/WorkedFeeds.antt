@@ -11,6 +11,7 @@ use Rattle.com_msg.specs.declared.framing.Framing.{Framing}
 use Rattle.com_msg.specs.declared.framing.Framing.TheVariants.{Marks}
 use Rattle.com_msg.specs.declared.framing.FrameFault.{FrameFault}
 use Rattle.com_msg.specs.declared.framing.FrameKind.TheVariants.{BadByte, Truncated}
+use Rattle.com_io.specs.Files.{file_limit}
 use Rattle.com_lines.specs.Frames.{IsClear, IsFramed}
 use Rattle.com_events.specs.declared.call.Party.{Party}
 use Rattle.com_events.specs.declared.call.EndReason.TheVariants as finish
@@ -47,8 +48,8 @@ given : Gives Marks input None (finish.Frame fault) (ab ∷ [])
 given = inl (omega arith, (inr (record { at_end = refl; kind = refl; clear = clear }), record { framed = All-cons (IsFramed Marks) ab [] framed (All-nil (IsFramed Marks)); spelled = refl }))
 
 -- A source that failed gave no more than is looked at
-given_is_looked_at : (framing : Framing) (bytes gone : List ℕ) (messages : List RawMessage) → Gives framing bytes (Some gone) finish.Fault messages → length gone ≤ 1048576
-given_is_looked_at framing bytes gone messages h = omega (arith, ap length h.front.1, length-append gone h.front.0, length-take 1048576 bytes)
+given_is_looked_at : (framing : Framing) (bytes gone : List ℕ) (messages : List RawMessage) → Gives framing bytes (Some gone) finish.Fault messages → length gone ≤ file_limit
+given_is_looked_at framing bytes gone messages h = omega (arith, ap length h.front.1, length-append gone h.front.0, length-take file_limit bytes)
 
 -- and where a fault of the framing is settled in what it gave, that fault is told: here A, and a byte that is none
 abbrev bad : List ℕ

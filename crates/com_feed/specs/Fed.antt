@@ -4,6 +4,7 @@ use Rattle.std.specs.List.{All, flat_map}
 use Rattle.com_msg.specs.declared.message.RawMessage.{RawMessage}
 use Rattle.com_msg.specs.declared.framing.Framing.{Framing}
 use Rattle.com_msg.specs.declared.framing.FrameFault.{FrameFault}
+use Rattle.com_io.specs.Files.{file_limit}
 use Rattle.com_lines.specs.Frames.{Frames, Finished, IsSettledFault, IsStopped}
 use Rattle.com_events.specs.declared.call.Party.{Party}
 use Rattle.com_events.specs.declared.call.EndReason.{EndReason}
@@ -14,12 +15,9 @@ use Rattle.com_events.specs.declared.reply.Reply.TheVariants.{Done}
 use Rattle.com_events.specs.declared.entry.Entry.{Entry}
 use Rattle.com_events.specs.Fronts.{IsPrefixOf}
 
--- how many bytes of an input are looked at
-abbrev pub input_limit : ℕ
-input_limit = 1048576
-
+-- the bytes of an input that are looked at
 abbrev pub looked_at : List ℕ → List ℕ
-looked_at bytes = take input_limit bytes
+looked_at bytes = take file_limit bytes
 
 -- a prefix that is not all
 abbrev pub IsProperPrefixOf : {X : Type 0} → List X → List X → Type 0
@@ -39,7 +37,7 @@ IsUnsettled framing bytes = (fault : FrameFault) → IsSettledFault framing byte
 
 -- an input that is longer than what is looked at, where no fault is settled
 pub record IsTooLong (framing : Framing) (bytes : List ℕ) (messages : List RawMessage) : Type 0 where
-  pub longer : input_limit < length bytes
+  pub longer : file_limit < length bytes
   pub unsettled : IsUnsettled framing (looked_at bytes)
   pub ended : Finished framing (looked_at bytes) messages
 
@@ -52,10 +50,10 @@ pub record HasFailed (framing : Framing) (bytes given : List ℕ) (messages : Li
 -- The messages of an input, by the reason for which its terminal ends by itself. `gone` is what the
 -- source gave, where it failed.
 abbrev pub Gives : Framing → List ℕ → Option (List ℕ) → EndReason → List RawMessage → Type 0
-Gives framing bytes _ finish.End messages = (length bytes ≤ input_limit) × Frames framing bytes messages None
+Gives framing bytes _ finish.End messages = (length bytes ≤ file_limit) × Frames framing bytes messages None
 Gives framing bytes _ (finish.Frame fault) messages =
-    ((length bytes ≤ input_limit) × Frames framing bytes messages (Some fault))
-    ⊎ ((input_limit < length bytes) × IsStopped framing (looked_at bytes) messages fault)
+    ((length bytes ≤ file_limit) × Frames framing bytes messages (Some fault))
+    ⊎ ((file_limit < length bytes) × IsStopped framing (looked_at bytes) messages fault)
 Gives framing bytes _ finish.Long messages = IsTooLong framing bytes messages
 Gives framing bytes None finish.Fault messages = ⊥
 Gives framing bytes (Some given) finish.Fault messages = HasFailed framing bytes given messages

@@ -2,3 +2,4 @@ mod Counting
 mod NamedLemmas
 mod ReadLemmas
 mod WriteLemmas
+mod WorkedCalls

@@ -12,9 +12,9 @@ use Rattle.com_journal.proofs.LineLaws.{call-complete}
 use Rattle.com_state.specs.State.{State, opening}
 use Rattle.com_state.specs.Steps.{step}
 use Rattle.com_state.specs.Histories.{LeadsTo, call_made, entry_before, run_from, run}
+use Rattle.com_io.specs.Files.{file_limit}
 use Rattle.mcs_top.specs.declared.script.Reason.{Reason}
 use Rattle.mcs_top.specs.declared.script.Reason.TheVariants.{Size, Text, NotAllowed}
-use Rattle.mcs_top.specs.Files.{file_limit}
 use Rattle.mcs_top.specs.Refusal.{IsNoCall, IsNotAllowed, StopsAt, IsFirstRefused, HasNoHeader, IsRefused}
 
 -- a line is the text of one call

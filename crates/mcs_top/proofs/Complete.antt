@@ -5,9 +5,9 @@ use Rattle.std.proofs.lemmas.Option.{none-some}
 use Rattle.com_io.specs.Faults.{Rose}
 use Rattle.com_io.specs.Stores.{Contents, Shown}
 use Rattle.com_msg.specs.declared.framing.Framing.{Framing}
+use Rattle.com_io.specs.Files.{file_limit}
 use Rattle.mcs_top.specs.declared.show.Ending.{Ending}
 use Rattle.mcs_top.specs.declared.show.Ending.TheVariants as ending
-use Rattle.mcs_top.specs.Files.{file_limit}
 use Rattle.mcs_top.specs.Show.{EndsSo}
 use Rattle.mcs_top.specs.Showing.{IsFaultyInputTold, IsShowUnwritten}
 use Rattle.mcs_top.proofs.CompleteReplay.{replay_done_told}

@@ -2,11 +2,10 @@
 use Rattle.std.proofs.Common.{◌≡◌, ℕ, List, Option, Some, None, sym, ◌∙◌, inl, inr}
 use Rattle.std.specs.Prelude.{◌⊎◌, IsSomeAnd}
 use Rattle.std.proofs.lemmas.Option.{same_Some}
-use Rattle.com_io.specs.Files.{IsRead, HasNoFault}
+use Rattle.com_io.specs.Files.{file_limit, IsRead, HasNoFault}
 use Rattle.com_io.specs.Stores.{Contents, Shown}
 use Rattle.com_net.specs.declared.fault.NetKind.{NetKind}
 use Rattle.mcs_top.specs.declared.script.Reason.{Reason}
-use Rattle.mcs_top.specs.Files.{file_limit}
 use Rattle.mcs_top.specs.Reports.{IsReported}
 use Rattle.mcs_top.specs.Replay.{IsDescriptionRefused, IsFileUnread, IsScriptRefused}
 use Rattle.mcs_top.specs.Outcome.{IsReplayOutcome, IsUnfailed, CanReplay}

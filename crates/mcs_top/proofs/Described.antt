@@ -4,11 +4,11 @@ use Rattle.std.specs.Prelude.{◌⊎◌, codes}
 use Rattle.std.proofs.lemmas.Bool.{cases_lt}
 use Rattle.std.proofs.lemmas.Bool.Decides.{nat_tests}
 use Rattle.std.proofs.lemmas.Option.{none-some}
+use Rattle.com_io.specs.Files.{file_limit}
 use Rattle.com_net.specs.declared.net.Net.{Net}
 use Rattle.com_net.specs.declared.fault.NetKind.{NetKind}
 use Rattle.com_net.specs.declared.fault.NetKind.TheVariants as kind
 use Rattle.com_net.specs.Description.{net_of, net_fault_of, is_too_long}
-use Rattle.mcs_top.specs.Files.{file_limit}
 
 pub never_both : (bytes : List ℕ) (fault : NetKind × List ℕ) (net : Net) → net_fault_of bytes ≡ Some fault → net_of bytes ≡ Some net → ⊥
 never_both bytes fault net faulty described =

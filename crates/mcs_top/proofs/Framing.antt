@@ -10,9 +10,9 @@ use Rattle.com_lines.specs.declared.reading.FeedError.TheVariants as feed
 use Rattle.com_lines.specs.declared.framer.State.TheVariants.{Going, Faulted}
 use Rattle.com_lines.specs.Framers.{Framed, StandsFor, StandsIn, IsGoing, HasFaulted}
 use Rattle.com_lines.specs.Frames.{Frames, IsSettledFault, IsStopped, Finished}
+use Rattle.com_io.specs.Files.{file_limit}
 use Rattle.mcs_top.specs.declared.show.Ending.{Ending}
 use Rattle.mcs_top.specs.declared.show.Ending.TheVariants.{End, Fault, Long}
-use Rattle.mcs_top.specs.Files.{file_limit}
 use Rattle.mcs_top.specs.Show.{EndsSo, message_lines, ending_line}
 
 finished : (framing : Framing) (framer : Framed) (bytes : List ℕ) (given : List RawMessage) → IsGoing framer → StandsFor framing framer bytes given → Finished framing bytes given

@@ -3,7 +3,7 @@ use Rattle.std.proofs.Common.{◌≡◌, ℕ, ◌+◌, List, [], ◌∷◌, leng
 use Rattle.std.specs.Prelude.{All}
 use Rattle.std.proofs.lemmas.List.{length-map}
 use Rattle.std.proofs.lemmas.List.Elements.{All-nil, All-cons}
-use Rattle.com_io.specs.Files.{IsRead}
+use Rattle.com_io.specs.Files.{file_limit, IsRead}
 use Rattle.com_io.specs.Stores.{Shown}
 use Rattle.com_net.specs.declared.net.Net.{Net}
 use Rattle.com_net.specs.declared.net.Terminal.{Terminal}
@@ -23,7 +23,6 @@ use Rattle.mcs_top.specs.declared.run.Run.{Run}
 use Rattle.mcs_top.specs.declared.script.Reason.TheVariants as reason
 use Rattle.mcs_top.specs.declared.script.ScriptFailure.{ScriptFailure}
 use Rattle.mcs_top.specs.declared.script.ScriptFailure.TheVariants.{Refused, Memory}
-use Rattle.mcs_top.specs.Files.{file_limit}
 use Rattle.mcs_top.specs.Outputs.{summary, unit_lines, terminal_lines, transcripts, outputs}
 use Rattle.mcs_top.specs.Running.{IsReached, IsOfRun, HasDoneLines, IsRunOf, IsDoneBy, AreRefused, TellsRefusedLine, transcripts_in, summary_of, writes_of}
 use Rattle.mcs_top.proofs.LastEntries.{ends_of, stopped_by_ends, ended_by_ends}

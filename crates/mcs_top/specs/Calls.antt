@@ -1,44 +1,39 @@
 -- All calls that were made on a store between two moments.
-use Rattle.std.specs.Prelude.{◌≡◌, ℕ, true, false, List, [], ◌∷◌, ◌++◌, IfSome, IsSomeAnd}
-use Rattle.com_io.specs.Stores.{Opening, Closing, Writing, Contents, Shown, output_name}
+use Rattle.std.specs.Prelude.{◌≡◌, ℕ, true, false, List, [], ◌∷◌, ◌++◌, map, IfSome, IsSomeAnd}
+use Rattle.com_io.specs.Stores.{StoreCall, Opened, Closed, Wrote, Writing, Contents, Shown, output_name}
 use Rattle.com_msg.specs.declared.framing.Framing.{Framing}
 use Rattle.mcs_top.specs.declared.ends.Verdict.{Verdict}
 use Rattle.mcs_top.specs.Outputs.{outputs}
 use Rattle.mcs_top.specs.Replay.{HasReplayed}
 use Rattle.mcs_top.specs.Showing.{HasShown}
 
--- The store was asked for these openings, closings and writes, each list in order, and for nothing
--- else.
-pub record WasAskedFor (opened : List Opening) (closings : List Closing) (writes : List Writing)
-    (before after : Contents) : Type 0 where
+-- These calls were made on the store, in this order, and no others.
+pub record WasAskedFor (made : List StoreCall) (before after : Contents) : Type 0 where
   pub files : after.files ≡ before.files
-  pub openings : after.openings ≡ before.openings ++ opened
-  pub closed : after.closed ≡ before.closed ++ closings
-  pub writings : after.writings ≡ before.writings ++ writes
+  pub calls : after.calls ≡ before.calls ++ made
 
--- an opening that answered Ok
-abbrev pub opening_of : List ℕ → Opening
-opening_of name = record { name = name; opened = true }
+-- a file that was opened, read to its end without a fault, and closed
+abbrev pub whole_reading : List ℕ → List StoreCall
+whole_reading name = Opened name true ∷ Closed 0 false ∷ []
 
--- the closing of a source that was read to its end
-abbrev pub read_whole : Closing
-read_whole = record { left = 0; failed = false }
+-- a write that was done
+abbrev pub done_write : Writing → StoreCall
+done_write write = Wrote write.name write.bytes true
 
--- A replay that is done opened NET and SCRIPT, each once, read both to their end, and wrote each output
--- once.
+-- A replay that is done opened NET, read it to its end and closed it, then opened SCRIPT, read it to its
+-- end and closed it, and then wrote each output once.
 abbrev pub AReplayReadsTwoFiles : Type 0
 AReplayReadsTwoFiles =
     (before after : Shown) (net_file script_file : List ℕ) (verdict : Verdict)
     (h : HasReplayed before after net_file script_file verdict) →
     IfSome before.contents (λ c. IsSomeAnd after.contents (λ d. WasAskedFor
-    (opening_of net_file ∷ opening_of script_file ∷ []) (read_whole ∷ read_whole ∷ [])
-    (outputs h.net h.history h.journal) c d))
+    (whole_reading net_file
+    ++ (whole_reading script_file ++ map done_write (outputs h.net h.history h.journal))) c d))
 
--- A show that is done opened FILE once, read it to its end, and wrote once.
+-- A show that is done opened FILE, read it to its end, closed it, and then wrote once.
 abbrev pub AShowReadsOneFile : Type 0
 AShowReadsOneFile =
     (framing : Framing) (before after : Shown) (file : List ℕ)
     (h : HasShown framing file before after) →
     IfSome before.contents (λ c. IsSomeAnd after.contents (λ d. WasAskedFor
-    (opening_of file ∷ []) (read_whole ∷ [])
-    (record { name = output_name; bytes = h.text } ∷ []) c d))
+    (whole_reading file ++ Wrote output_name h.text true ∷ []) c d))

@@ -1,7 +1,7 @@
 -- Why a replay is not done, for the functions that do it.
 use Rattle.std.specs.Prelude.{◌≡◌, ℕ, ◌⊎◌, List}
 use Rattle.com_io.specs.declared.store.StoreFault.TheVariants as store
-use Rattle.com_io.specs.Files.{IsRead, IsAbandoned}
+use Rattle.com_io.specs.Files.{file_limit, IsRead, IsAbandoned}
 use Rattle.com_io.specs.Stores.{Shown}
 use Rattle.com_net.specs.declared.net.Net.{Net}
 use Rattle.mcs_top.specs.declared.script.Reason.{Reason}
@@ -10,7 +10,7 @@ use Rattle.mcs_top.specs.declared.report.Failure.{Failure}
 use Rattle.mcs_top.specs.declared.report.Failure.TheVariants.{Refused, Write, Memory}
 use Rattle.mcs_top.specs.declared.run.Run.{Run}
 use Rattle.mcs_top.specs.declared.ends.Verdict.{Verdict}
-use Rattle.mcs_top.specs.Files.{file_limit, IsNotRead}
+use Rattle.mcs_top.specs.Files.{IsNotRead}
 use Rattle.mcs_top.specs.Histories.{verdict_of}
 use Rattle.mcs_top.specs.Running.{IsDoneBy, writes_of, AreWritten, IsCutIn}
 use Rattle.mcs_top.specs.Refusal.{IsRefused}

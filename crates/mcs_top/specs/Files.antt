@@ -1,15 +1,10 @@
 -- How much of a file a command takes, and a file that could not be read.
 use Rattle.std.specs.Prelude.{◌≡◌, ℕ, ◌⊎◌, List}
-use Rattle.com_io.specs.Files.{IsUnopened, IsUnreadable, IsAbandoned}
+use Rattle.com_io.specs.Files.{file_limit, IsUnopened, IsUnreadable, IsAbandoned}
 use Rattle.com_io.specs.Stores.{Shown}
-use Rattle.mcs_top.specs.declared.files.TheConstants.{FILE_LIMIT}
 use Rattle.mcs_top.specs.declared.report.Refusal.TheVariants.{Usage, Description, Unread, Script, Input}
 use Rattle.mcs_top.specs.declared.report.Failure.{Failure}
 use Rattle.mcs_top.specs.declared.report.Failure.TheVariants.{Refused, Write, Memory}
-
--- a description, a script or an input that is shown has at most this many bytes
-abbrev pub file_limit : ℕ
-file_limit = FILE_LIMIT
 
 -- The file of this name was asked for and not opened, or a read of it failed. Nothing else was asked
 -- for.

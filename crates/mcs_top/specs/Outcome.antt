@@ -14,9 +14,10 @@ use Rattle.com_events.specs.declared.call.Party.{Party}
 use Rattle.com_events.specs.declared.call.Call.{Call}
 use Rattle.com_journal.specs.Scripts.{IsScript}
 use Rattle.com_state.specs.Histories.{run}
+use Rattle.com_io.specs.Files.{file_limit}
 use Rattle.mcs_top.specs.declared.script.Reason.{Reason}
 use Rattle.mcs_top.specs.declared.ends.Verdict.TheVariants.{Sound, Faulty}
-use Rattle.mcs_top.specs.Files.{file_limit, IsNotRead}
+use Rattle.mcs_top.specs.Files.{IsNotRead}
 use Rattle.mcs_top.specs.Words.{IsReplay, IsShow, IsNoCommand}
 use Rattle.mcs_top.specs.Reports.{IsReported, IsCutReport, usage_report, description_report, unreadable_report, script_report}
 use Rattle.mcs_top.specs.Replay.{HasReplayed, IsReplayUnwritten, LacksMemoryToWrite, LacksMemoryToReplay, IsDescriptionRefused, IsFileUnread, IsScriptRefused}

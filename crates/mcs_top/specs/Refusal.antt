@@ -9,9 +9,9 @@ use Rattle.com_journal.specs.Scripts.{lines_of, script_header, AreCalls}
 use Rattle.com_state.specs.State.{State, opening}
 use Rattle.com_state.specs.Steps.{step}
 use Rattle.com_state.specs.Histories.{LeadsTo, call_made}
+use Rattle.com_io.specs.Files.{file_limit}
 use Rattle.mcs_top.specs.declared.script.Reason.{Reason}
 use Rattle.mcs_top.specs.declared.script.Reason.TheVariants.{Size, Text, NotAllowed}
-use Rattle.mcs_top.specs.Files.{file_limit}
 
 -- the line is no call's text
 abbrev pub IsNoCall : State → List ℕ → Type 0

@@ -3,7 +3,7 @@ use Rattle.std.specs.Prelude.{◌≡◌, ℕ, ◌≤◌, ◌⊎◌, List, length
 use Rattle.com_io.specs.declared.store.StoreFault.{StoreFault}
 use Rattle.com_io.specs.declared.store.StoreFault.TheVariants.{Failed, Memory}
 use Rattle.com_io.specs.Faults.{Rose}
-use Rattle.com_io.specs.Files.{IsRead, IsAbandoned, HasNoFault}
+use Rattle.com_io.specs.Files.{file_limit, IsRead, IsAbandoned, HasNoFault}
 use Rattle.com_io.specs.Stores.{Shown}
 use Rattle.com_net.specs.declared.net.Net.{Net}
 use Rattle.com_net.specs.declared.fault.NetKind.{NetKind}
@@ -15,15 +15,16 @@ use Rattle.com_state.specs.Histories.{Legal, IsRun, call_made}
 use Rattle.com_state.specs.Wholeness.{Whole, InOrder}
 use Rattle.mcs_top.specs.declared.ends.Verdict.{Verdict}
 use Rattle.mcs_top.specs.declared.script.Reason.{Reason}
-use Rattle.mcs_top.specs.Files.{file_limit, IsNotRead}
+use Rattle.mcs_top.specs.Files.{IsNotRead}
 use Rattle.mcs_top.specs.Histories.{verdict_of}
 use Rattle.mcs_top.specs.Outputs.{outputs, contents_after, StopsAtWrite}
 use Rattle.mcs_top.specs.Refusal.{IsRefused}
 
--- NET was read, and describes this network.
+-- NET was read to its end, and describes this network.
 pub record IsNetRead (net_file : List ℕ) (before read : Shown) (net : Net) : Type 0 where
   pub description : List ℕ
   pub is_read : IsRead file_limit net_file description before read
+  pub within_limit : length description ≤ file_limit
   pub described : net_of description ≡ Some net
 
 -- SCRIPT was read, and this legal history is the run of its calls. Each message goes to one unit

@@ -4,7 +4,7 @@ use Rattle.std.specs.List.{All, filter, flat_map}
 use Rattle.com_io.specs.declared.store.StoreFault.{StoreFault}
 use Rattle.com_io.specs.declared.store.StoreFault.TheVariants as store
 use Rattle.com_io.specs.Faults.{Rose}
-use Rattle.com_io.specs.Files.{HasNoFault}
+use Rattle.com_io.specs.Files.{file_limit, HasNoFault}
 use Rattle.com_io.specs.Stores.{Shown, Writing, output_name}
 use Rattle.com_msg.specs.declared.sending.OutMessage.{OutMessage}
 use Rattle.com_msg.specs.Rendering.{rendered_message}
@@ -27,7 +27,6 @@ use Rattle.mcs_top.specs.declared.script.LineFailure.TheVariants as line_fault
 use Rattle.mcs_top.specs.declared.script.Reason.TheVariants as reason
 use Rattle.mcs_top.specs.declared.script.ScriptFailure.{ScriptFailure}
 use Rattle.mcs_top.specs.declared.script.ScriptFailure.TheVariants.{Refused, Memory}
-use Rattle.mcs_top.specs.Files.{file_limit}
 use Rattle.mcs_top.specs.Histories.{is_arrival, is_portion, arrivals, portions}
 use Rattle.mcs_top.specs.Outputs.{unit_lines, terminal_lines, count_lines, journal_name, transcript_name, writing, contents_after, StopsAtWrite}
 use Rattle.mcs_top.specs.Refusal.{IsNoCall, IsNotAllowed, StopsAt, IsRefused}

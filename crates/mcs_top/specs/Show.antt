@@ -7,9 +7,9 @@ use Rattle.com_msg.specs.declared.framing.Framing.{Framing}
 use Rattle.com_msg.specs.declared.framing.FrameFault.{FrameFault}
 use Rattle.com_lines.specs.Frames.{Frames, Finished, IsSettledFault, IsStopped}
 use Rattle.com_journal.specs.Words.{end_word, frame_word}
+use Rattle.com_io.specs.Files.{file_limit}
 use Rattle.mcs_top.specs.declared.show.Ending.{Ending}
 use Rattle.mcs_top.specs.declared.show.Ending.TheVariants.{End, Fault, Long}
-use Rattle.mcs_top.specs.Files.{file_limit}
 
 -- The messages of an input, and how it ends. Of an input over the limit no more is looked at than
 -- the limit says: it ends with a fault that is settled there, and otherwise as too long.
@@ -49,7 +49,7 @@ abbrev pub ending_line : Ending → List ℕ
 ending_line End = codes "end\n"
 ending_line (Fault fault) =
     codes "fault " ++ (frame_word fault.kind ++ (32 ∷ decimal fault.at ++ codes "\n"))
-ending_line Long = codes "fault LONG 1048576\n"
+ending_line Long = codes "fault LONG " ++ (decimal file_limit ++ codes "\n")
 
 -- The text that shows an input, which ends so.
 pub record IsShowOf (framing : Framing) (bytes : List ℕ) (ending : Ending)

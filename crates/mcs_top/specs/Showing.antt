@@ -1,14 +1,14 @@
 -- What `show` does: which file it reads, and what becomes of the text that shows it.
 use Rattle.std.specs.Prelude.{◌≡◌, ◌≢◌, ℕ, ◌⊎◌, List}
 use Rattle.com_msg.specs.declared.framing.Framing.{Framing}
-use Rattle.com_io.specs.Files.{IsRead, IsAbandoned}
+use Rattle.com_io.specs.Files.{file_limit, IsRead, IsAbandoned}
 use Rattle.com_io.specs.Stores.{Shown}
 use Rattle.mcs_top.specs.declared.report.Refusal.TheVariants.{Usage, Description, Unread, Script, Input}
 use Rattle.mcs_top.specs.declared.report.Failure.{Failure}
 use Rattle.mcs_top.specs.declared.report.Failure.TheVariants.{Refused, Write, Memory}
 use Rattle.mcs_top.specs.declared.show.Ending.{Ending}
 use Rattle.mcs_top.specs.declared.show.Ending.TheVariants as ending
-use Rattle.mcs_top.specs.Files.{file_limit, IsNotRead}
+use Rattle.mcs_top.specs.Files.{IsNotRead}
 use Rattle.mcs_top.specs.Reports.{IsWritten, IsWriteFailed, IsCutReport}
 use Rattle.mcs_top.specs.Show.{IsShowOf}
 

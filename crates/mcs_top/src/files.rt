@@ -1,14 +1,11 @@
 //! Reading the files that a command names.
 ghost use Rattle.std.specs.Prelude.{◌≡◌, IfOk, IfErr};
-ghost use Rattle.com_io.specs.Files.{IsRead};
-ghost use Rattle.mcs_top.specs.Files.{file_limit, IsNotReadFor};
+ghost use Rattle.com_io.specs.Files.{file_limit, IsRead};
+ghost use Rattle.mcs_top.specs.Files.{IsNotReadFor};
 
 use crate::report::{Failure, Refusal};
-use com_io::{ReadFault, Store, read_file};
+use com_io::{FILE_LIMIT, ReadFault, Store, read_file};
 use std::alloc::Global;
-
-/// How many bytes a description, a script or an input that is shown has at most.
-pub const FILE_LIMIT: usize = 1_048_576;
 
 /// The bytes of a file to its end, or to one past the limit.
 pub fn read_named<'a, S: Store>(

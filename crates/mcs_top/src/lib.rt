@@ -30,7 +30,8 @@
 mod command;
 mod ends;
 mod files;
-mod laws;
+pub mod laws;
+pub mod limits;
 mod outputs;
 mod replay;
 mod report;
@@ -40,4 +41,3 @@ mod show;
 mod summary;
 
 pub use command::{mcs, tool};
-pub use laws::{a_replay_reads_two_files, a_show_reads_one_file};

@@ -1,7 +1,6 @@
 //! `replay`: does the calls of a script on one thread.
 ghost use Rattle.std.specs.Prelude.{◌≡◌, OnOk, IfOk, IfErr};
-ghost use Rattle.com_io.specs.Files.{IsRead};
-ghost use Rattle.mcs_top.specs.Files.{file_limit};
+ghost use Rattle.com_io.specs.Files.{file_limit, IsRead};
 ghost use Rattle.mcs_top.specs.Replay.{IsNetRead, IsScriptDone, HasReplayed};
 ghost use Rattle.mcs_top.specs.Failing.{IsNetFailure, IsScriptFailure, HasNotReplayed};
 ghost use Rattle.mcs_top.specs.Running.{IsDoneBy, IsReached};

@@ -4,9 +4,9 @@ ghost use Rattle.com_journal.specs.Scripts.{lines_of};
 ghost use Rattle.mcs_top.specs.Refusal.{IsRefused};
 ghost use Rattle.mcs_top.specs.Running.{IsRunOf, HasDoneLines, DoesLine, IsLineRefused, AreRefused, TellsRefusedLine, failure_at};
 
-use crate::files::FILE_LIMIT;
 use crate::run::Run;
 use com_events::Entry;
+use com_io::FILE_LIMIT;
 use com_journal::{Lines, call_line, script_lines};
 use com_net::Net;
 use std::alloc::{AllocError, Global};

@@ -1,14 +1,14 @@
 //! Showing how a file of terminal input is framed.
 ghost use Rattle.std.specs.Prelude.{◌≡◌, [], ◌∷◌, ◌++◌, IfOk, IfErr, OnOk, take};
 ghost use Rattle.com_text.specs.Counted.{counted_field};
-ghost use Rattle.mcs_top.specs.Files.{file_limit};
+ghost use Rattle.com_io.specs.Files.{file_limit};
 ghost use Rattle.mcs_top.specs.Reports.{IsWritten};
 ghost use Rattle.mcs_top.specs.Show.{EndsSo, IsShowOf, ending_line, message_heading, message_line, message_lines, segment_fields};
 ghost use Rattle.mcs_top.specs.Showing.{HasShown, HasNotShown, IsUnwrittenFor};
 
-use crate::files::{FILE_LIMIT, read_named};
+use crate::files::read_named;
 use crate::report::{Failure, Refusal};
-use com_io::{OUTPUT_NAME, Store, StoreFault};
+use com_io::{FILE_LIMIT, OUTPUT_NAME, Store, StoreFault};
 use com_journal::{end_word, frame_word};
 use com_lines::{FeedError, Framer};
 use com_msg::{FrameFault, Framing, RawMessage};
@@ -164,8 +164,17 @@ fn put_ending(out: &mut Rows<u8>, ending: Ending) -> Result<(), AllocError>
     match ending {
         Ending::End => out.extend_from_slice(b"end\n"),
         Ending::Fault(fault) => put_fault(out, fault),
-        Ending::Long => out.extend_from_slice(b"fault LONG 1048576\n"),
+        Ending::Long => put_long(out),
     }
+}
+
+/// Adds the line of an input that is longer than the limit.
+fn put_long(out: &mut Rows<u8>) -> Result<(), AllocError>
+    ensures { OnOk result (out.new ≡ out.old ++ ending_line Ending.Long) }
+{
+    out.extend_from_slice(b"fault LONG ")?;
+    put_number(out, FILE_LIMIT as u64)?;
+    out.extend_from_slice(b"\n")
 }
 
 /// Adds the line of a fault.

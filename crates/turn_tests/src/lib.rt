@@ -7,6 +7,7 @@ ghost use Rattle.turn_tests.specs.Diaries.{IsFree, IsAfter};
 
 use com_turn::{Logged, Pass, Turn};
 use std::alloc::{AllocError, Global};
+use std::hint;
 use std::sync::Wait;
 use std::thread;
 use std::thread::Threads;
@@ -88,6 +89,14 @@ pub fn write_note(rt: &impl Wait, turn: &Turn<Diary>, pass: &mut Pass<Diary>, nu
     turn.give(pass, diary);
 }
 
+/// Spends a time that differs from number to number, so that a party asks for the turn at any moment of
+/// another's.
+fn spend(number: u32) {
+    for _ in 0..number % 2048 {
+        hint::spin_loop();
+    }
+}
+
 /// Writes notes with the numbers from 0, each in a turn of its own.
 pub fn write_notes(rt: &impl Wait, turn: &Turn<Diary>, pass: Pass<Diary>, count: u32) -> Pass<Diary>
     requires { (pass.turn ≡ turn.now) × (pass.at_turn ≡ false) }
@@ -96,6 +105,7 @@ pub fn write_notes(rt: &impl Wait, turn: &Turn<Diary>, pass: Pass<Diary>, count:
     let mut pass = pass;
     for number in 0..count {
         write_note(rt, turn, &mut pass, number);
+        spend(number);
     }
     pass
 }

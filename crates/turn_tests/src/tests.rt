@@ -29,6 +29,17 @@ fn two_owners(rt: HostRuntime) -> Result<(), Fail> {
     Ok(())
 }
 
+// Two threads hand the turn to and fro so often that each has to sleep. If one is not woken it waits for
+// the other, and the other for it: the test does not end.
+#[test]
+fn who_sleeps_is_woken(rt: HostRuntime) -> Result<(), Fail> {
+    let (turn, mut passes) = open(rt.alloc(), 7, 2)?;
+    let second = last_pass(&turn, &mut passes);
+    let first = last_pass(&turn, &mut passes);
+    assert!(&rt; write_in_scope(&rt, &turn, first, second, 20_000));
+    Ok(())
+}
+
 #[test]
 fn four_passes_in_four_threads(rt: HostRuntime) -> Result<(), Fail> {
     let (turn, mut passes) = open(rt.alloc(), 7, 5)?;

@@ -1,4 +1,4 @@
-use Rattle.mcs_top.specs.Files.{file_limit}
+use Rattle.com_io.specs.Files.{file_limit}
 use Rattle.mcs_top.proofs.Performance.{done_by}
 use Rattle.mcs_top.proofs.Reading.{read_abandoned}
 use Rattle.mcs_top.proofs.replay.perform_file.Goals as goal

@@ -1,5 +1,5 @@
 use Rattle.std.proofs.Common.{inl}
-use Rattle.mcs_top.specs.Files.{file_limit}
+use Rattle.com_io.specs.Files.{file_limit}
 use Rattle.mcs_top.proofs.Reading.{read_abandoned}
 use Rattle.mcs_top.proofs.show.show.Goals as goal
 

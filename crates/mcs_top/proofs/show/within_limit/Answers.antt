@@ -1,5 +1,5 @@
 use Rattle.std.proofs.Common.{arith}
-use Rattle.mcs_top.specs.Files.{file_limit}
+use Rattle.com_io.specs.Files.{file_limit}
 use Rattle.mcs_top.proofs.Framing.{least_front}
 use Rattle.mcs_top.proofs.show.within_limit.Goals as goal
 
