@@ -16,7 +16,11 @@ fn a_log_of_one_entry_has_30_bytes(rt: HostRuntime) -> Result<(), Fail> {
     assert_eq!(rt; log.version(), 1);
     let mut bytes = [0u8; 40];
     assert_eq!(rt; disk.read(0, &mut bytes)?, 30);
-    assert!(rt; bytes.as_slice().starts_with(b"MCSDISK1\x01\x00\x00\x00\x10T T1 HELD = DONE\x00"));
+    assert!(rt;
+        bytes
+            .as_slice()
+            .starts_with(b"MCSDISK1\x01\x00\x00\x00\x10T T1 HELD = DONE\x00")
+    );
     Ok(())
 }
 
@@ -29,11 +33,26 @@ fn a_crash_before_the_last_sync_may_lose_the_entry(rt: HostRuntime) -> Result<()
     assert_eq!(rt; disk.calls(), 6);
     let held = b"MCS-JOURNAL 1\nT T1 HELD = DONE\n".as_slice();
     let none = b"MCS-JOURNAL 1\n".as_slice();
-    assert_eq!(rt; journal_of(alloc, &mut disk.crash(5, Torn::Ones)?)?.as_slice(), held);
-    assert_eq!(rt; journal_of(alloc, &mut disk.crash(5, Torn::Old)?)?.as_slice(), none);
-    assert_eq!(rt; journal_of(alloc, &mut disk.crash(4, Torn::Ones)?)?.as_slice(), none);
-    assert_eq!(rt; journal_of(alloc, &mut disk.crash(3, Torn::Ones)?)?.as_slice(), none);
-    assert_eq!(rt; journal_of(alloc, &mut disk.crash(6, Torn::Old)?)?.as_slice(), held);
+    assert_eq!(rt;
+        journal_of(alloc, &mut disk.crash(5, Torn::Ones)?)?.as_slice(),
+        held
+    );
+    assert_eq!(rt;
+        journal_of(alloc, &mut disk.crash(5, Torn::Old)?)?.as_slice(),
+        none
+    );
+    assert_eq!(rt;
+        journal_of(alloc, &mut disk.crash(4, Torn::Ones)?)?.as_slice(),
+        none
+    );
+    assert_eq!(rt;
+        journal_of(alloc, &mut disk.crash(3, Torn::Ones)?)?.as_slice(),
+        none
+    );
+    assert_eq!(rt;
+        journal_of(alloc, &mut disk.crash(6, Torn::Old)?)?.as_slice(),
+        held
+    );
     Ok(())
 }
 
@@ -67,9 +86,18 @@ fn other_bytes_are_no_journal(rt: HostRuntime) -> Result<(), Fail> {
     assert_eq!(rt; fault_of(&rt, b"MCSDISK1")?, at(0));
     assert_eq!(rt; fault_of(&rt, b"MCSDISK1\x01\x00\x00")?, at(8));
     assert_eq!(rt; fault_of(&rt, b"MCSDISK1\x01\x00\x00\x00\x02XY")?, at(8));
-    assert_eq!(rt; fault_of(&rt, b"MCSDISK1\x01\x00\x00\x00\x10T T1 HELD = DONE")?, at(8));
-    assert_eq!(rt; fault_of(&rt, b"MCSDISK1\x01\x00\x00\x00\x10T T1 HELD = DONE\x01")?, at(29));
-    assert_eq!(rt; fault_of(&rt, b"MCSDISK1\x01\x00\x00\x00\x10T T1 HELD = DONE\x02\x01")?, None);
+    assert_eq!(rt;
+        fault_of(&rt, b"MCSDISK1\x01\x00\x00\x00\x10T T1 HELD = DONE")?,
+        at(8)
+    );
+    assert_eq!(rt;
+        fault_of(&rt, b"MCSDISK1\x01\x00\x00\x00\x10T T1 HELD = DONE\x01")?,
+        at(29)
+    );
+    assert_eq!(rt;
+        fault_of(&rt, b"MCSDISK1\x01\x00\x00\x00\x10T T1 HELD = DONE\x02\x01")?,
+        None
+    );
     assert_eq!(rt; fault_of(&rt, b"MCSDISK1\x00\x01\x00\x00")?, None);
     Ok(())
 }
