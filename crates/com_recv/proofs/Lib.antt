@@ -1,7 +1,10 @@
 mod Awaited
-mod Choosing
+pub mod Changing
+pub mod Choosing
 mod Designating
 mod Fields
+pub mod FirstOnLeaf
+pub mod Kept
 pub mod Handing
 pub mod Places
 pub mod Queued

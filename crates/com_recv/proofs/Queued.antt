@@ -68,8 +68,8 @@ all_parts (queue ∷ queues) from ws each =
     let start : from + 0 ≡ from = omega arith in
     let here : queue ≡ filter (is_on from) ws = rw start at (each 0 (omega arith)) in
     let rest = all_parts queues (suc from) ws (λ leaf within.
-        let next : suc from + leaf ≡ from + suc leaf = omega arith in
-        rw next (each (suc leaf) (omega (arith, within)))) in
+    let next : suc from + leaf ≡ from + suc leaf = omega arith in
+    rw next (each (suc leaf) (omega (arith, within)))) in
     ap (λ q. q ++ all_of queues) here ∙ ap (λ r. filter (is_on from) ws ++ r) rest
 
 no_parts : (from n : ℕ) → parts from n [] ≡ []
@@ -123,7 +123,8 @@ split w from (suc n) ws least most = elim (cases_Bool (w.leaf.number == from)) [
 ordered_parts : (n : ℕ) (ws : List Waiting) → All (λ w. w.leaf.number < n) ws → AllPairs IsEarlier ws → by_arrival (parts 0 n ws) ≡ ws
 ordered_parts n [] on pairs = ap by_arrival (no_parts 0 n)
 ordered_parts n (w ∷ ws) on pairs =
-    let here = split w 0 n ws (omega arith) (on 0 w (omega arith)) in
+    let number : w.leaf.number < n = on 0 w (omega arith) in
+    let here = split w 0 n ws (omega arith) (omega (arith, number)) in
     let all : IsBefore w ws = before_all w ws (λ k d within. pairs 0 (suc k) d (omega arith) (omega (arith, within))) in
     let apart : IsBefore w (here.front ++ here.back) = rw here.less at (before_parts w 0 n ws all) in
     let rest = ordered_parts n ws (λ k d within. on (suc k) d (omega (arith, within))) (λ i j d less within. pairs (suc i) (suc j) d (omega (arith, less)) (omega (arith, within))) in
@@ -133,6 +134,6 @@ ordered_parts n (w ∷ ws) on pairs =
 pub ordered : (queues : List (List Waiting)) (waiting : List Waiting) → AreQueuesOf queues waiting → by_arrival (all_of queues) ≡ waiting
 ordered queues waiting are =
     let each : (leaf : ℕ) → leaf < length queues → get_or queues leaf [] ≡ filter (is_on (0 + leaf)) waiting = λ leaf within.
-        let same : 0 + leaf ≡ leaf = omega arith in
-        rw same (are.each leaf (omega (arith, within, are.size))) in
+    let same : 0 + leaf ≡ leaf = omega arith in
+    rw same (are.each leaf (omega (arith, within, are.size))) in
     ap by_arrival (all_parts queues 0 waiting each) ∙ (ap (λ n. by_arrival (parts 0 n waiting)) are.size ∙ ordered_parts 64 waiting are.on are.in_order)

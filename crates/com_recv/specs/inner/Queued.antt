@@ -33,9 +33,15 @@ pub record AreQueuesOf (queues : List (List Waiting)) (waiting : List Waiting) :
 
 -- the first messages of the leaves of a tree and the counts under its nodes are those of what waits
 pub record AreKeptOf (rows : List TreeRow) (heads : HeadLists) (counts : List ℕ) (waiting : List Waiting) : Type 0 where
-  pub heads : IsHeadsOf rows heads
+  pub of_tree : IsHeadsOf rows heads
   pub numbers : (leaf : ℕ) → leaf < leaf_count rows
       → get_or heads.numbers leaf None ≡ first_number waiting leaf
   pub size : length counts ≡ length rows
-  pub counts : (row : ℕ) → row < length rows
+  pub under : (row : ℕ) → row < length rows
       → get_or counts row 0 ≡ waiting_under rows waiting (node_at row)
+
+-- what the queues, the heads, the counts and the number of all messages hold of what waits
+pub record AreQueued (rows : List TreeRow) (queues : List (List Waiting)) (heads : HeadLists) (counts : List ℕ) (total : ℕ) : Type 0 where
+  pub leaves : AreQueuesOf queues (by_arrival (all_of queues))
+  pub kept : AreKeptOf rows heads counts (by_arrival (all_of queues))
+  pub all : total ≡ length (by_arrival (all_of queues))
