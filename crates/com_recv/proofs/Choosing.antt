@@ -23,7 +23,7 @@ get_take (x ∷ xs) (suc n) zero within = refl
 get_take (x ∷ xs) (suc n) (suc i) within = get_take xs n i (omega (arith, within))
 
 -- no message waits beyond the leaves
-none_beyond : (waiting : List Waiting) (leaves leaf : ℕ) → All (λ w. w.leaf.number < leaves) waiting → leaves ≤ leaf → find (is_on leaf) waiting ≡ None
+pub none_beyond : (waiting : List Waiting) (leaves leaf : ℕ) → All (λ w. w.leaf.number < leaves) waiting → leaves ≤ leaf → find (is_on leaf) waiting ≡ None
 none_beyond [] leaves leaf all beyond = refl
 none_beyond (w ∷ waiting) leaves leaf all beyond =
     let here : w.leaf.number < leaves = all 0 w (omega arith) in

@@ -110,7 +110,7 @@ pub record IsFirstAt (tree : List TreeRow) (waiting : List Waiting) (node : Node
   pub first : first_on waiting w.leaf.number ≡ Some w.message
   pub removed : remove waiting at ≡ without_first w.leaf.number waiting
 
-removed_first : (leaf : ℕ) (waiting : List Waiting) → position_or_len (is_on leaf) waiting < length waiting → remove waiting (position_or_len (is_on leaf) waiting) ≡ without_first leaf waiting
+pub removed_first : (leaf : ℕ) (waiting : List Waiting) → position_or_len (is_on leaf) waiting < length waiting → remove waiting (position_or_len (is_on leaf) waiting) ≡ without_first leaf waiting
 removed_first leaf [] within = absurd (omega (arith, within))
 removed_first leaf (w ∷ waiting) within = elim (cases_Bool (w.leaf.number == leaf)) [
   | inl same ↦ rw same refl

@@ -1,8 +1,12 @@
 mod Awaited
-mod Choosing
+pub mod Changing
+pub mod Choosing
 mod Designating
+pub mod FirstOnLeaf
+pub mod Kept
 pub mod Handing
 pub mod Places
+pub mod Queued
 mod Receiving
 mod Taking
 pub mod Members

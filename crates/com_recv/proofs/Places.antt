@@ -91,17 +91,17 @@ twice : (o : Option Waiting) → option_map (λ message. message.arrival) (optio
 twice None = refl
 twice (Some w) = refl
 
-number_of_first : (waiting : List Waiting) (leaf : ℕ) → first_number waiting leaf ≡ option_map (λ w. w.message.arrival) (find (is_on leaf) waiting)
+pub number_of_first : (waiting : List Waiting) (leaf : ℕ) → first_number waiting leaf ≡ option_map (λ w. w.message.arrival) (find (is_on leaf) waiting)
 number_of_first waiting leaf = twice (find (is_on leaf) waiting)
 
 -- the first message on a leaf, when one more has come
-first_number_more : (waiting : List Waiting) (w : Waiting) (leaf : ℕ) → first_number (waiting ++ w ∷ []) leaf ≡ option_or (first_number waiting leaf) (first_number (w ∷ []) leaf)
+pub first_number_more : (waiting : List Waiting) (w : Waiting) (leaf : ℕ) → first_number (waiting ++ w ∷ []) leaf ≡ option_or (first_number waiting leaf) (first_number (w ∷ []) leaf)
 first_number_more waiting w leaf =
     number_of_first (waiting ++ w ∷ []) leaf ∙ (ap (option_map (λ m. m.message.arrival)) (find-append (is_on leaf) waiting (w ∷ []))
     ∙ (mapped (λ m. m.message.arrival) (find (is_on leaf) waiting) (find (is_on leaf) (w ∷ []))
     ∙ rw (number_of_first waiting leaf, number_of_first (w ∷ []) leaf) refl))
 
-or_first : (o p : Option ℕ) → is_some o ≡ true → option_or o p ≡ o
+pub or_first : (o p : Option ℕ) → is_some o ≡ true → option_or o p ≡ o
 or_first None p some = absurd (false≢true some)
 or_first (Some x) p some = refl
 
@@ -114,7 +114,7 @@ abbrev pub AreHeads : List (Option ℕ) → List Waiting → Type 0
 AreHeads heads waiting = (leaf : ℕ) → leaf < 64 → slice_get heads leaf ≡ Some (first_number waiting leaf)
 
 -- a message on another leaf changes nothing
-elsewhere : (waiting : List Waiting) (w : Waiting) (leaf : ℕ) → (w.leaf.number == leaf) ≡ false → first_number (waiting ++ w ∷ []) leaf ≡ first_number waiting leaf
+pub elsewhere : (waiting : List Waiting) (w : Waiting) (leaf : ℕ) → (w.leaf.number == leaf) ≡ false → first_number (waiting ++ w ∷ []) leaf ≡ first_number waiting leaf
 elsewhere waiting w leaf other =
     let none : first_number (w ∷ []) leaf ≡ None = rw other refl in
     first_number_more waiting w leaf ∙ (rw none refl ∙ or_none (first_number waiting leaf))

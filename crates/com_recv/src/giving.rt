@@ -1,19 +1,20 @@
 //! Giving portions of what is held and of what waits.
-ghost use Rattle.std.specs.Prelude.{◌≡◌, ◌<◌, ◌≤◌, Some, length, slice_get, IfOk, OnErr};
-ghost use Rattle.std.specs.List.{remove};
+ghost use Rattle.std.specs.Prelude.{◌≡◌, ◌<◌, ◌≤◌, Some, length, slice_get, IfOk, OnOk, OnErr};
+ghost use Rattle.com_msg.specs.declared.message.Message.{Message as MessageOf};
 ghost use Rattle.com_msg.specs.Portion.{IsEndKey};
 ghost use Rattle.com_tree.specs.Written.{leaf_count};
 ghost use Rattle.com_recv.specs.declared.lists.Held.{Held as HeldRest};
-ghost use Rattle.com_recv.specs.declared.lists.Waiting.{Waiting as WaitingMessage};
+ghost use Rattle.com_recv.specs.Incoming.{first_on, without_first};
 ghost use Rattle.com_recv.specs.Areas.{given_area};
 ghost use Rattle.com_recv.specs.Giving.{IsOnTree, Gives};
 
 use crate::areas::portion_area;
-use crate::lists::{Held, Waiting, hold};
+use crate::leaf_queues::LeafQueues;
+use crate::lists::{Held, hold};
 use com_cd::InArea;
 use com_msg::{Kind, MAX_SIZE, Portion, Rest};
 use com_text::Text;
-use com_tree::{Leaf, Tree};
+use com_tree::{Leaf, MAX_LEAVES, Tree};
 use std::alloc::AllocError;
 
 /// What a RECEIVE of a unit asks for.
@@ -51,29 +52,30 @@ pub fn give_held(
     Ok(portion.text)
 }
 
-/// Gives a portion of the message at a place, which leaves the queue. The unit holds what is left.
+/// Gives a portion of the first message on a leaf, which leaves the queue. The unit holds what is
+/// left.
 pub fn give_waiting(
     tree: &Tree,
-    waiting: &mut Vec<Waiting>,
-    at: usize,
+    waiting: &mut LeafQueues,
+    leaf: Leaf,
     held: &mut Vec<Held>,
     area: &mut InArea,
     request: Request,
 ) -> Result<Text, AllocError>
-    requires at { at < length waiting.old.items }
-    requires leaf { (w : WaitingMessage) → slice_get waiting.old.items at ≡ Some w
-        → IsOnTree tree.now w.leaf.number w.message }
+    requires leaf { leaf.number < leaf_count tree.now }
+    requires few { leaf_count tree.now ≤ MAX_LEAVES }
+    requires some { (message : MessageOf) × (first_on waiting.old leaf.number ≡ Some message)
+        × (1 ≤ length message.segments) }
     requires size { (1 ≤ request.size) × (request.size ≤ MAX_SIZE) }
-    ensures given { (w : WaitingMessage) → slice_get waiting.old.items at ≡ Some w → IfOk result
-        (Gives tree.now request w.leaf.number w.message held.old.items area.old area.new
+    ensures given { (message : MessageOf) → first_on waiting.old leaf.number ≡ Some message
+        → IfOk result (Gives tree.now request leaf.number message held.old.items area.old area.new
         held.new.items) }
-    ensures taken { IfOk result (λ text. waiting.new.items ≡ remove waiting.old.items at) }
-    ensures err { OnErr result ((waiting.new.items ≡ waiting.old.items)
+    ensures taken { OnOk result (waiting.new ≡ without_first leaf.number waiting.old) }
+    ensures err { OnErr result ((waiting.new ≡ waiting.old)
         × (held.new.items ≡ held.old.items) × (area.new ≡ area.old)) }
 {
     held.try_reserve(1)?;
-    let portion = waiting[at].message.take(request.kind, request.size)?;
-    let Waiting { leaf, message } = waiting.remove(at);
+    let (message, portion) = waiting.take_first(leaf, request.kind, request.size)?;
     *area = given_area(tree, leaf, &message, &portion, *area);
     hold(held, request.unit, leaf, message);
     Ok(portion.text)

@@ -26,6 +26,7 @@
 mod areas;
 mod giving;
 mod laws;
+mod leaf_queues;
 pub mod limits;
 mod lists;
 mod queues;

@@ -5,7 +5,7 @@ ghost use Rattle.std.specs.Vec.{vec_len, vec_capacity};
 ghost use Rattle.com_recv.specs.Incoming.{first_number, is_on, is_held_on, held_on, held_in, without_held, without_unit, holding};
 
 use com_msg::Rest;
-use com_tree::{Leaf, MAX_LEAVES};
+use com_tree::Leaf;
 
 /// A message that waits on a leaf.
 #[derive(Debug, Drop)]
@@ -21,39 +21,6 @@ pub struct Held {
     /// The leaf that the message came from.
     pub leaf: Leaf,
     pub rest: Rest,
-}
-
-/// The arrival number of the first message on each leaf.
-pub fn heads_of(waiting: &[Waiting]) -> [Option<u64>; MAX_LEAVES as usize]
-    requires { All (λ w. w.leaf.number < MAX_LEAVES) waiting.now }
-    ensures { (leaf : ℕ) → leaf < MAX_LEAVES → slice_get result leaf ≡ Some (first_number waiting.now leaf) }
-{
-    let mut heads = [None; MAX_LEAVES as usize];
-    for message in waiting {
-        let leaf = message.leaf.number as usize;
-        if heads[leaf].is_none() {
-            heads[leaf] = Some(message.message.arrival());
-        }
-    }
-    heads
-}
-
-/// The place of the message that came first on a leaf.
-pub fn first_on(waiting: &[Waiting], leaf: Leaf) -> Option<usize>
-    ensures { result ≡ position (is_on leaf.number) waiting.now }
-{
-    waiting.iter().position(|message| message.leaf == leaf)
-}
-
-/// How many messages wait on the leaves from one number to before another.
-pub fn count_between(waiting: &[Waiting], first: u32, past: u32) -> usize
-    ensures { result
-        ≡ count_by (λ w. nat_le first w.leaf.number && nat_lt w.leaf.number past) waiting.now }
-{
-    waiting
-        .iter()
-        .filter(|message| first <= message.leaf.number && message.leaf.number < past)
-        .count()
 }
 
 /// The place of what a unit holds from a leaf.

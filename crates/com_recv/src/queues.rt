@@ -3,14 +3,15 @@ ghost use Rattle.std.specs.Prelude.{◌≡◌, ◌<◌, ◌≤◌, ◌++◌, ◌
 ghost use Rattle.std.specs.List.{All};
 ghost use Rattle.com_tree.specs.declared.tree.TreeRow.{TreeRow as TreeNode};
 ghost use Rattle.com_tree.specs.Written.{IsWritten, leaf_count};
-ghost use Rattle.com_recv.specs.Incoming.{IsTreeOf, nothing, designated, chosen_leaf, held_under, has_message, has_rest, without_unit, place_of_choice};
+ghost use Rattle.com_recv.specs.Incoming.{IsTreeOf, nothing, designated, chosen_leaf, held_under, has_message, has_rest, without_unit};
 ghost use Rattle.com_recv.specs.Receiving.{receive, has_data, count};
 
 use crate::areas::{counted_area, no_data_area, refused_area};
 use crate::giving::{Request, give_held, give_waiting};
-use crate::lists::{Held, Waiting, count_between, drop_unit, first_on, heads_of, held_between};
+use crate::leaf_queues::LeafQueues;
+use crate::lists::{Held, drop_unit, held_between};
 use com_cd::{Designation, InArea};
-use com_msg::{Kind, MAX_SIZE, Message, Rest};
+use com_msg::{Kind, MAX_SIZE, Message};
 use com_text::Text;
 use com_tree::{Leaf, Node, Tree};
 use std::alloc::{AllocError, Global};
@@ -31,7 +32,7 @@ pub enum Taken {
 /// lists. Each call is made with the tree that the queues were made for.
 #[derive(Debug, Drop)]
 pub struct Queues {
-    waiting: Vec<Waiting>,
+    waiting: LeafQueues,
     held: Vec<Held>,
 }
 
@@ -41,12 +42,12 @@ impl Model for Queues {
     ghost Value = { Incoming };
 
     ghost view = { λ queues. record {
-      waiting = queues.waiting.items;
+      waiting = queues.waiting;
       held = queues.held.items;
     } };
 
     ghost invariant = { λ queues. IsSound (record {
-      waiting = queues.waiting.items;
+      waiting = queues.waiting;
       held = queues.held.items;
     }) };
 }
@@ -58,9 +59,10 @@ impl Queues {
         ensures empty { IfOk result (λ queues. queues ≡ nothing) }
         ensures tree { IfOk result (IsTreeOf tree.now) }
     {
-        let leaves = tree.rows().iter().filter(|row| row.is_leaf()).count();
+        // What a tree promises of its rows is promised of the tree here.
+        let _rows = tree.rows();
         Ok(Queues {
-            waiting: Vec::with_capacity(alloc, leaves)?,
+            waiting: LeafQueues::new(alloc, tree)?,
             held: Vec::with_capacity(alloc, units as usize)?,
         })
     }
@@ -85,15 +87,10 @@ impl Queues {
         ensures err { OnErr result (self.new ≡ self.old) }
         ensures handed_back { IfErr result (λ refused. refused.0 ≡ message) }
     {
-        if self.waiting.try_reserve(1).is_err() {
-            return Err((message, AllocError));
+        match self.waiting.push(leaf, message) {
+            Ok(()) => Ok(()),
+            Err(refused) => Err((refused, AllocError)),
         }
-        let waiting = Waiting {
-            leaf,
-            message: Rest::of(message),
-        };
-        self.waiting.push(waiting).unwrap();
-        Ok(())
     }
 
     /// RECEIVE of a unit: a portion of at most `size` characters of what the unit holds under the
@@ -124,12 +121,12 @@ impl Queues {
             let text = give_held(tree, &mut self.held, at, area, request)?;
             return Ok(Taken::Given(text));
         }
-        match self.first_under(tree, node) {
-            Some(at) => {
+        match self.waiting.choice(tree, node) {
+            Some(leaf) => {
                 let text = give_waiting(
                     tree,
                     &mut self.waiting,
-                    at,
+                    leaf,
                     &mut self.held,
                     area,
                     request,
@@ -175,8 +172,7 @@ impl Queues {
         ensures message { is_some result ≡ has_message tree.now self.now.waiting node }
         ensures within { IfSome result (λ leaf. leaf.number < leaf_count tree.now) }
     {
-        let heads = heads_of(&self.waiting);
-        tree.next(node, &heads[..tree.leaves() as usize])
+        self.waiting.choice(tree, node)
     }
 
     /// ACCEPT MESSAGE COUNT: the area tells how many messages wait under the designated node.
@@ -185,10 +181,7 @@ impl Queues {
         ensures { area.new ≡ count tree.now self.now area.old }
     {
         *area = match designated(tree, area) {
-            Some(node) => {
-                let (first, past) = tree.leaves_under(node);
-                counted_area(count_between(&self.waiting, first, past), *area)
-            }
+            Some(node) => { counted_area(self.waiting.count(tree, node), *area) }
             None => refused_area(*area),
         };
     }
@@ -211,16 +204,6 @@ impl Queues {
     {
         let (first, past) = tree.leaves_under(node);
         held_between(&self.held, unit, first, past)
-    }
-
-    /// The place of the message that came first on the leaf that a node chooses.
-    fn first_under(&self, tree: &Tree, node: Node) -> Option<usize>
-        requires tree { IsTreeOf tree.now self.now }
-        requires node { node.row < length tree.now }
-        ensures { result ≡ place_of_choice tree.now self.now.waiting node }
-    {
-        let leaf = self.choice(tree, node)?;
-        first_on(&self.waiting, leaf)
     }
 }
 

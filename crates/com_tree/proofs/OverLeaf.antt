@@ -23,7 +23,7 @@ after rows leaf row later =
     rw none refl
 
 -- and one whose leaves all come before it is not
-before : (rows : List TreeRow) (leaf row : ℕ) → past_leaf rows (node_at row) ≤ leaf → is_over rows leaf row ≡ false
+pub before : (rows : List TreeRow) (leaf row : ℕ) → past_leaf rows (node_at row) ≤ leaf → is_over rows leaf row ≡ false
 before rows leaf row sooner =
     let none : nat_lt leaf (past_leaf rows (node_at row)) ≡ false = grind (arith, nat_tests, sooner) in
     and_none (nat_le (first_leaf rows (node_at row)) leaf) (nat_lt leaf (past_leaf rows (node_at row))) none

@@ -150,3 +150,7 @@ one_more rows others at row other within inside is there same each before less =
       let two : get_or others at e ≡ other = same_read others at e other inside ∙ sym there in
       rw (at_it, one, two) same
 ]
+
+-- and as many leaves
+pub same_leaves : (rows others : List TreeRow) → shape rows ≡ shape others → leaf_count rows ≡ leaf_count others
+same_leaves rows others same = sym (leaves-shape rows) ∙ (ap leaf_count same ∙ leaves-shape others)
