@@ -41,3 +41,5 @@ mod Holding
 pub mod Doing
 mod NameFields
 mod Flags
+pub mod Awaiting
+pub mod Replying
