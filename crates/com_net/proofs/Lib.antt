@@ -18,3 +18,4 @@ mod SoundParts
 mod SoundTables
 mod Tables
 mod Walks
+pub mod NumberedNames

@@ -40,3 +40,5 @@ pub mod Consistency
 mod Holding
 pub mod Doing
 mod Flags
+pub mod Awaiting
+pub mod Replying

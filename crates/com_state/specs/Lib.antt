@@ -10,3 +10,4 @@ pub mod Parties
 pub mod Reached
 pub mod Kept
 pub mod Inside
+pub mod Waits
