@@ -1,5 +1,5 @@
 -- Lists of calls, worked out: which call came first is told, and so is what one kind of call was.
-use Rattle.std.proofs.Common.{◌≡◌, ℕ, true, false, List, [], ◌∷◌, ◌++◌, length, take, refl, ap, arith}
+use Rattle.std.proofs.Common.{◌≡◌, true, false, List, [], ◌∷◌, length, take, refl, ap, arith}
 use Rattle.std.specs.Prelude.{codes}
 use Rattle.com_io.specs.Stores.{StoreCall, Opened, Closed, Wrote, openings, closings}
 

@@ -3,7 +3,7 @@ use Rattle.std.specs.Prelude.{◌≡◌, ℕ, ◌+◌, ◌-◌, ◌≤◌, ◌�
 use Rattle.std.specs.FinMap as map
 use Rattle.com_io.specs.declared.files.TheConstants.{FILE_LIMIT}
 use Rattle.com_io.specs.Faults.{Rose}
-use Rattle.com_io.specs.Stores.{Shown, Contents, StoreCall, Opened, Closed, with_call}
+use Rattle.com_io.specs.Stores.{Shown, Contents, Opened, Closed, with_call}
 
 -- at most this many bytes of a file are looked at
 abbrev pub file_limit : ℕ

@@ -1,17 +1,16 @@
 -- From what a command came to, to what the public call promises.
-use Rattle.std.proofs.Common.{◌≡◌, ◌≢◌, ℕ, List, sym, ◌∙◌, inl, inr, arith, refl}
-use Rattle.com_io.specs.Files.{HasNoFault, IsAbandoned}
+use Rattle.std.proofs.Common.{◌≡◌, ◌≢◌, ℕ, List, sym, ◌∙◌, inl, inr, arith}
 use Rattle.com_io.specs.Stores.{Shown}
 use Rattle.com_msg.specs.declared.framing.Framing.{Framing}
 use Rattle.mcs_top.specs.declared.report.Refusal.TheVariants.{Usage, Description, Unread, Script, Input}
 use Rattle.mcs_top.specs.declared.report.Failure.{Failure}
 use Rattle.mcs_top.specs.declared.report.Failure.TheVariants.{Refused, Write, Memory}
 use Rattle.mcs_top.specs.declared.ends.Verdict.TheVariants.{Sound, Faulty}
-use Rattle.mcs_top.specs.Reports.{IsReported, IsCutReport, IsRefusedWith, IsAnswerTo}
+use Rattle.mcs_top.specs.Reports.{IsReported, IsRefusedWith, IsAnswerTo}
 use Rattle.mcs_top.specs.Replay.{HasReplayed, IsReplayUnwritten}
 use Rattle.mcs_top.specs.Failing.{HasNotReplayed}
 use Rattle.mcs_top.specs.Showing.{HasShown, IsShowUnwritten, IsFaultyInput, IsFaultyInputTold, HasNotShown}
-use Rattle.mcs_top.specs.Outcome.{IsOutcome, IsUsageOutcome, IsReplayOutcome, IsReplayWithoutMemory, IsDescriptionTold, IsUnreadTold, IsScriptTold, IsShowOutcome, IsShowWithoutMemory, IsInputUnread}
+use Rattle.mcs_top.specs.Outcome.{IsUsageOutcome, IsReplayOutcome, IsReplayWithoutMemory, IsDescriptionTold, IsUnreadTold, IsScriptTold, IsShowOutcome, IsShowWithoutMemory, IsInputUnread}
 
 -- a status has one value
 other : {P : Type 0} {status n m : ℕ} → status ≡ n → n ≢ m → status ≡ m → P
@@ -96,21 +95,3 @@ show_answered framing file before tried after (Refused (Input text)) status h (i
 show_answered framing file before tried after (Refused (Input text)) status h (inr answer) = show_memory answer.0 (inr (inr (faulty_told h answer.1)))
 show_answered framing file before tried after Write status h answer = show_unwritten answer.0 (rw answer.1 h)
 show_answered framing file before tried after Memory status h answer = show_memory answer.0 (inl (rw answer.1 h))
-
--- where nothing was done, memory ran out
-same_counts : (shown : Shown) → HasNoFault shown shown
-same_counts shown = record { pending = refl; open_faults = refl; read_faults = refl; write_faults = refl }
-
-not_asked : (limit : ℕ) (name : List ℕ) (shown : Shown) → IsAbandoned limit name shown shown
-not_asked limit name shown = record { contents = inl refl; no_fault = same_counts shown }
-
-not_reported : (text : List ℕ) (shown : Shown) → IsCutReport shown shown text
-not_reported text shown = record { undone = inl refl; no_fault = same_counts shown }
-
-pub nothing_done : (words : List (List ℕ)) (shown : Shown) → IsOutcome words 1 shown shown
-nothing_done words shown = record {
-  usage = λ _. record { memory = λ _. not_reported _ shown; usage = λ is. absurd (omega (arith, is)); statuses = inl refl };
-  replay = λ net_file script_file _. replay_memory refl (inl (inl (not_asked _ net_file shown)));
-  show = λ framing file _. show_memory refl (inl (inl (not_asked _ file shown)));
-  pending = refl;
-}
