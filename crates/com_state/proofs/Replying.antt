@@ -140,6 +140,7 @@ has_some S unit area kind size h = by_node (designated S.net.tree area) h
       | inl none ↦ absurd (false≢true (rw none at some))
       | inr next ↦ rw next.1 refl
     ]
+
     by_node : (node : Option Node) → (is_none node || is_some (option_and_then (next_rest S.net.tree S.incoming unit) node)) ≡ true
         → is_no_data (reply_of (receive_at S.net.tree S.incoming unit area kind size node).0 (receive_at S.net.tree S.incoming unit area kind size node).1) ≡ false
     by_node None some = refl

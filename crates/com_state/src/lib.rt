@@ -46,8 +46,8 @@ mod parties;
 mod state;
 
 pub use call_laws::{
-    a_call_is_refused_where_it_has_to_wait, a_call_leaves_the_other_parties, a_reply_is_of_its_call,
-    idle_calls_need_an_idle_system,
+    a_call_is_refused_where_it_has_to_wait, a_call_leaves_the_other_parties,
+    a_reply_is_of_its_call, idle_calls_need_an_idle_system,
 };
 pub use laws::{
     a_front_is_legal, a_legal_history_leaves_one_state, a_portion_is_no_longer_than_asked,

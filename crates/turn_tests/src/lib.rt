@@ -7,10 +7,9 @@ ghost use Rattle.turn_tests.specs.Diaries.{IsFree, IsAfter};
 
 use com_turn::{Logged, Pass, Turn};
 use std::alloc::{AllocError, Global};
-use std::hint;
 use std::sync::Wait;
-use std::thread;
 use std::thread::Threads;
+use std::{hint, thread};
 
 #[cfg(test)]
 mod tests;
