@@ -19,10 +19,11 @@ ghost use Rattle.cob_meaning.specs.Follows.{
 };
 ghost use Rattle.com_events.specs.Fronts.{IsPrefixOf};
 ghost use Rattle.cob_meaning.specs.Laws.{GoesOn, Takes};
-ghost use Rattle.cob_proc.specs.declared.tree.Paragraph.{Paragraph as ParagraphOf};
+ghost use Rattle.cob_proc.specs.Trees.{ParagraphTree};
+ghost use Rattle.cob_meaning.specs.Checked.{IsCheckedText};
 ghost use Rattle.cob_meaning.specs.Layouts.{Layout};
 ghost use Rattle.cob_meaning.specs.Names.{names_faults};
-ghost use Rattle.cob_meaning.specs.Sound.{AreFit, AreTexts, AreWellFormed, IsSound};
+ghost use Rattle.cob_meaning.specs.Sound.{AreFit, AreWellFormed, IsSound};
 ghost use Rattle.cob_lex.specs.declared.fault.SourceFault.{SourceFault as FaultOf};
 ghost use Rattle.cob_meaning.specs.Sources.{IsProgramOf, IsSourceFaultOf, from_procedure};
 ghost use Rattle.cob_meaning.specs.Meaning.{
@@ -87,9 +88,9 @@ pub fn fronts_are_of_the_program()
 
 /// The bound of a range is above what may still be begun, so one more changes nothing.
 pub fn more_bound_changes_nothing()
-    ensures { (bound : ℕ) (layout : Layout) (text : List ParagraphOf) (at last : ℕ) (run : Run) →
+    ensures { (bound : ℕ) (layout : Layout) (text : List ParagraphTree) (begin last : ℕ) (run : Run) →
         run.left < bound →
-        range bound layout text at last run ≡ range (bound + 1) layout text at last run }
+        range bound layout text begin last run ≡ range (bound + 1) layout text begin last run }
 {}
 
 /// The Procedure Division begins at the last token of the divisions before it, and nothing is left out.
@@ -116,7 +117,7 @@ pub fn fronts_are_so_far()
 /// wants a reply, where its layout is sound, its literals are texts and the replies fit the calls.
 pub fn calls_are_well_formed()
     ensures { (program : Program) (names : Option (List ℕ)) (replies : List ReplyOf) →
-        IsSound program.layout → AreTexts program.text → first (names_faults program) ≡ None →
+        IsSound program.layout → IsCheckedText program.layout program.text → first (names_faults program) ≡ None →
         IfSome names AreNames → AreFit (meaning program names replies).calls replies →
         AreWellFormed (meaning program names replies) }
 {}

@@ -6,7 +6,8 @@
 //! are so far (`SoFar`).
 //!
 //! `specs/Sources.antt` says which program a source is (`IsProgramOf`) and which fault it has
-//! (`IsSourceFaultOf`), over all passes.
+//! (`IsSourceFaultOf`), over all passes: each source is one of both, and `specs/Checked.antt` says what a
+//! program then is.
 //!
 //! ```text
 //! meaning echo None []                           its RECEIVE is wanted
@@ -14,15 +15,10 @@
 //! meaning echo None (HELLO ∷ the area ∷ [])      both were answered; the RECEIVE is wanted again
 //! ```
 //!
-//! These are definitions, on which no code stands yet, with their laws.
+//! These are definitions with their laws; there is no code.
 #![tactic(auto)]
 
-mod laws;
+pub mod laws;
+mod limits;
 
-pub use laws::{
-    answered_calls_stay, calls_are_well_formed, calls_are_within_limits, each_call_takes_a_reply,
-    follows_so_far, fronts_are_of_the_program, fronts_are_so_far, more_bound_changes_nothing,
-    more_replies_go_on, procedure_begins_where_divisions_end, programs_have_no_fault,
-    programs_never_stop_idle, replies_decide_calls, sources_have_one_fault,
-    sources_have_one_meaning,
-};
+pub use limits::MAX_STATEMENTS;
