@@ -1,5 +1,5 @@
 //! Laws of the definitions. A function here does nothing; its contract is the law.
-ghost use Rattle.std.specs.Prelude.{◌≡◌, ◌<◌, ◌≤◌, ◌+◌, ℕ, List, ◌∷◌, ◌++◌, length, drop, Option, None, IfSome};
+ghost use Rattle.std.specs.Prelude.{◌≡◌, ◌⊎◌, ◌<◌, ◌≤◌, ◌+◌, ℕ, List, ◌∷◌, ◌++◌, length, drop, Option, None, Result, IfSome};
 ghost use Rattle.cob_lex.specs.declared.token.Token.{Token as TokenOf};
 ghost use Rattle.cob_forms.specs.Faults.{first};
 ghost use Rattle.cob_data.specs.Divisions.{IsDivisionOf};
@@ -25,7 +25,8 @@ ghost use Rattle.cob_meaning.specs.Layouts.{Layout};
 ghost use Rattle.cob_meaning.specs.Names.{names_faults};
 ghost use Rattle.cob_meaning.specs.Sound.{AreFit, AreWellFormed, IsSound};
 ghost use Rattle.cob_lex.specs.declared.fault.SourceFault.{SourceFault as FaultOf};
-ghost use Rattle.cob_meaning.specs.Sources.{IsProgramOf, IsSourceFaultOf, from_procedure};
+ghost use Rattle.cob_meaning.specs.Ranges.{IsFirstOf, IsRangesFault};
+ghost use Rattle.cob_meaning.specs.Sources.{IsProgramOf, IsReadAs, IsSourceFaultOf, from_procedure};
 ghost use Rattle.cob_meaning.specs.Meaning.{
   Ending,
   Limits,
@@ -114,7 +115,7 @@ pub fn fronts_are_so_far()
 {}
 
 /// The calls of a program without a fault are well formed, those that were answered and the one that
-/// wants a reply, where its layout is sound, its literals are texts and the replies fit the calls.
+/// wants a reply, if its layout is sound, its text is checked and the replies fit the calls.
 pub fn calls_are_well_formed()
     ensures { (program : Program) (names : Option (List ℕ)) (replies : List ReplyOf) →
         IsSound program.layout → IsCheckedText program.layout program.text → first (names_faults program) ≡ None →
@@ -122,21 +123,59 @@ pub fn calls_are_well_formed()
         AreWellFormed (meaning program names replies) }
 {}
 
-/// A source is one program: two that it is have one meaning.
-pub fn sources_have_one_meaning()
-    ensures { (source : List ℕ) (program other : Program) (names : Option (List ℕ))
-        (replies : List ReplyOf) → IsProgramOf source program → IsProgramOf source other →
-        meaning program names replies ≡ meaning other names replies }
-{}
-
-/// Or it has one fault.
-pub fn sources_have_one_fault()
-    ensures { (source : List ℕ) (fault other : FaultOf) → IsSourceFaultOf source fault →
-        IsSourceFaultOf source other → fault ≡ other }
+/// Each source is a program or has a fault.
+pub fn sources_are_programs_or_have_a_fault()
+    ensures { (source : List ℕ) → ((program : Program) × IsProgramOf source program)
+        ⊎ ((fault : FaultOf) × IsSourceFaultOf source fault) }
 {}
 
 /// And not both.
 pub fn programs_have_no_fault()
     ensures { (source : List ℕ) (program : Program) (fault : FaultOf) →
         IsProgramOf source program → IsSourceFaultOf source fault → ⊥ }
+{}
+
+/// A source is one program.
+pub fn sources_are_one_program()
+    ensures { (source : List ℕ) (program other : Program) → IsProgramOf source program →
+        IsProgramOf source other → program ≡ other }
+{}
+
+/// So what a source means is one.
+pub fn sources_have_one_meaning()
+    ensures { (source : List ℕ) (program other : Program) (names : Option (List ℕ))
+        (replies : List ReplyOf) → IsProgramOf source program → IsProgramOf source other →
+        meaning program names replies ≡ meaning other names replies }
+{}
+
+/// Or a source has one fault, whatever the pass that reports it.
+pub fn sources_have_one_fault()
+    ensures { (source : List ℕ) (fault other : FaultOf) → IsSourceFaultOf source fault →
+        IsSourceFaultOf source other → fault ≡ other }
+{}
+
+/// The passes together are one function of the source.
+pub fn passes_are_one_function()
+    ensures { (source : List ℕ) → (read : Result Program FaultOf) × IsReadAs source read
+        × ((other : Result Program FaultOf) → IsReadAs source other → read ≡ other) }
+{}
+
+/// Each text has a first fault of ranges, or none.
+pub fn ranges_have_a_first_fault_or_none()
+    ensures { (text : List ParagraphTree) →
+        ((fault : FaultOf) × IsFirstOf (IsRangesFault text) fault)
+        ⊎ ((fault : FaultOf) → IsRangesFault text fault → ⊥) }
+{}
+
+/// The names of a program of a source stand for what its statements ask for, and its numbers and literals
+/// have their sizes.
+pub fn programs_are_checked()
+    ensures { (source : List ℕ) (program : Program) → IsProgramOf source program →
+        IsCheckedText program.layout program.text }
+{}
+
+/// A unit begins at most a million statements and turns, and has at most 10,000 verbs answered.
+pub fn units_have_limits()
+    ensures statements { unit_limits.statements ≡ 1000000 }
+    ensures verbs { unit_limits.verbs ≡ 10000 }
 {}
