@@ -17,3 +17,4 @@ pub mod SpelledPlaces
 pub mod SpelledOrder
 mod WorkedComments
 mod WorkedLiterals
+pub mod TokenSizes

@@ -2,17 +2,16 @@
 use Rattle.std.proofs.Common.{◌≡◌, ℕ, zero, suc, ◌<◌, ◌≤◌, Bool, true, false, List, [], ◌∷◌, Option, Some, None, refl, sym, subst, arith}
 use Rattle.com_events.specs.declared.reply.Reply.{Reply}
 use Rattle.com_events.specs.declared.reply.Reply.TheVariants.{Started, Given, NoData, Refused, Waits, AreaIn, AreaOut, Arrived, Done}
-use Rattle.cob_proc.specs.declared.tree.Paragraph.{Paragraph}
 use Rattle.cob_proc.specs.declared.tree.Repetition.{Repetition}
 use Rattle.cob_proc.specs.declared.tree.Repetition.TheVariants as repetition
-use Rattle.cob_proc.specs.declared.tree.Statement.{Statement, Move, Add, Subtract, If', Perform, Go, Exit, Stop, Receive', Send, SwitchInput, SwitchOutput, Accept, Row_of-Statement, end_of-Statement, more_of-Statement}
+use Rattle.cob_proc.specs.Trees.{Plain, moves, adds, subtracts, performs, goes, exits, stops, sends, switches_input, switches_output, accepts, Tree, plain, branches, receives, Block, none, lead, ParagraphTree}
 use Rattle.com_events.specs.declared.call.StopReason.TheVariants as stop
 use Rattle.cob_meaning.specs.Layouts.{Layout}
 use Rattle.cob_meaning.specs.Storage.{Storage}
 use Rattle.cob_meaning.specs.Moves.{add, addend_number, move, subtract}
 use Rattle.cob_meaning.specs.Conditions.{holds}
 use Rattle.cob_meaning.specs.Verbs.{Request, accept, receive, send, switch_input, switch_output}
-use Rattle.cob_meaning.specs.Meaning.{Run, Outcome, Normal, Jump, Stops, Needs, then_do, begun_with, begun, changed_to, changed, choice, times, so_often, until, turns, behind_reply, answered, requested, verb_with, verb, paragraph_number, last_of, Running, are_written, does, do_all, in_order, statements_of, after, paragraphs_do, from_to, range}
+use Rattle.cob_meaning.specs.Meaning.{Run, Outcome, Normal, Jump, Stops, Needs, then_do, begun_with, begun, changed_to, changed, choice, times, times_of, until, turns, after_reply, answered, requested, verb_with, verb, paragraph_number, last_of, Running, are_written, plain_does, does, do_all, in_order, after, paragraphs_do, from_to, range}
 
 -- at most n are left afterwards, and fewer after a jump, which was itself begun
 abbrev Within : ℕ → Outcome → Type 0
@@ -72,7 +71,7 @@ times_alike n (suc k) f g h =
     let r = begun_alike n (λ t. then_do (f t) (times k f)) (λ t. then_do (g t) (times k g)) (λ t lt. alike_more _ _ _ _ (omega arith) (then_alike n t.left (f t) (g t) (times k f) (times k g) (omega arith) (h.from t (omega arith)) (times_alike n k f g h))) in
     record { from = λ run lt. r.from run lt }
 
-often_alike : (n : ℕ) (k : Option ℕ) (f g : Run → Outcome) → AlikeBelow n f g → AlikeBelow n (so_often k f) (so_often k g)
+often_alike : (n : ℕ) (k : Option ℕ) (f g : Run → Outcome) → AlikeBelow n f g → AlikeBelow n (times_of k f) (times_of k g)
 often_alike n None f g h = record { from = λ run lt. itself _ _ tt }
 often_alike n (Some k) f g h = record { from = λ run lt. (times_alike n k f g h).from run lt }
 
@@ -94,7 +93,7 @@ changed_within (Some storage) run = omega arith
 changed_alike : (n : ℕ) (f : Storage → Option Storage) → AlikeBelow (suc n) (begun (changed f)) (begun (changed f))
 changed_alike n f = begun_alike (suc n) (changed f) (changed f) (λ t lt. itself _ _ (changed_within (f t.storage) t))
 
-behind_alike : (n : ℕ) (f g : Run → Outcome) → AlikeBelow n f g → (r : Reply) → AlikeBelow n (behind_reply r f) (behind_reply r g)
+behind_alike : (n : ℕ) (f g : Run → Outcome) → AlikeBelow n f g → (r : Reply) → AlikeBelow n (after_reply r f) (after_reply r g)
 behind_alike n f g h (NoData area) = record { from = λ run lt. h.from run lt }
 behind_alike n f g h (Started names) = normal_alike n
 behind_alike n f g h (Given area text) = normal_alike n
@@ -124,39 +123,42 @@ verbs_alike n request f g h =
 one_more : (n : ℕ) (f g : Run → Outcome) → AlikeBelow n f g → AlikeBelow (suc n) (begun f) (begun g)
 one_more n f g h = begun_alike (suc n) f g (λ t lt. alike_more _ _ _ _ (omega arith) (h.from t (omega arith)))
 
-module _ (layout : Layout) (text : List Paragraph) (n : ℕ) (P Q : Running) (alike : (at last : ℕ) → AlikeBelow n (P at last) (Q at last)) where
+module _ (layout : Layout) (text : List ParagraphTree) (n : ℕ) (P Q : Running) (alike : (begin last : ℕ) → AlikeBelow n (P begin last) (Q begin last)) where
+  plain_alike : (s : Plain) → AlikeBelow (suc n) (begun (plain_does layout text n P s)) (begun (plain_does layout text (suc n) Q s))
+  plain_alike (moves source targets) = changed_alike n (move layout source targets)
+  plain_alike (adds addend target) = changed_alike n (add layout addend target)
+  plain_alike (subtracts addend target) = changed_alike n (subtract layout addend target)
+  plain_alike (performs first last often) =
+      let f = P (paragraph_number text first) (paragraph_number text (last_of first last)) in
+      let g = Q (paragraph_number text first) (paragraph_number text (last_of first last)) in
+      one_more n (turns n layout often f) (turns (suc n) layout often g) (turns_alike n layout often f g (alike _ _))
+  plain_alike (goes target) = begun_alike (suc n) (Jump (paragraph_number text target)) (Jump (paragraph_number text target)) (λ t lt. itself _ _ (omega arith))
+  plain_alike exits = begun_alike (suc n) Normal Normal (λ t lt. itself _ _ (omega arith))
+  plain_alike stops = begun_alike (suc n) (Stops stop.Run) (Stops stop.Run) (λ t lt. itself _ _ tt)
+  plain_alike (sends cd from ending) = verbs_alike n (send layout cd from ending) Normal Normal (normal_alike (suc n))
+  plain_alike (switches_input on terminal cd key) = verbs_alike n (switch_input layout on terminal cd key) Normal Normal (normal_alike (suc n))
+  plain_alike (switches_output on cd key) = verbs_alike n (switch_output layout on cd key) Normal Normal (normal_alike (suc n))
+  plain_alike (accepts cd) = verbs_alike n (accept layout cd) Normal Normal (normal_alike (suc n))
+
   mutual
-    does_alike : (s : Statement) → AlikeBelow (suc n) (does layout text n P s) (does layout text (suc n) Q s)
-    does_alike (Move source targets) = changed_alike n (move layout source targets)
-    does_alike (Add addend target) = changed_alike n (add layout addend target)
-    does_alike (Subtract addend target) = changed_alike n (subtract layout addend target)
-    does_alike (If' position condition _ one _ other) =
+    does_alike : (s : Tree) → AlikeBelow (suc n) (does layout text n P s) (does layout text (suc n) Q s)
+    does_alike (plain statement) = plain_alike statement
+    does_alike (branches position condition one other) =
         begun_alike (suc n) (λ run. choice (holds layout condition run.storage) (do_all layout text n P one) (do_all layout text n P other) run)
         (λ run. choice (holds layout condition run.storage) (do_all layout text (suc n) Q one) (do_all layout text (suc n) Q other) run)
         (λ t lt. alike_more _ _ _ _ (omega arith) ((choice_alike (suc n) (holds layout condition t.storage) (do_all layout text n P one) (do_all layout text n P other) (do_all layout text (suc n) Q one) (do_all layout text (suc n) Q other) (all_alike one) (all_alike other)).from t (omega arith)))
-    does_alike (Perform first last often) =
-        let f = P (paragraph_number text first) (paragraph_number text (last_of first last)) in
-        let g = Q (paragraph_number text first) (paragraph_number text (last_of first last)) in
-        one_more n (turns n layout often f) (turns (suc n) layout often g) (turns_alike n layout often f g (alike _ _))
-    does_alike (Go target) = begun_alike (suc n) (Jump (paragraph_number text target)) (Jump (paragraph_number text target)) (λ t lt. itself _ _ (omega arith))
-    does_alike Exit = begun_alike (suc n) Normal Normal (λ t lt. itself _ _ (omega arith))
-    does_alike Stop = begun_alike (suc n) (Stops stop.Run) (Stops stop.Run) (λ t lt. itself _ _ tt)
-    does_alike (Receive' cd segment into _ no_data) =
+    does_alike (receives cd segment into no_data) =
         verbs_alike n (receive layout cd segment into (are_written no_data)) (do_all layout text n P no_data) (do_all layout text (suc n) Q no_data) (all_alike no_data)
-    does_alike (Send cd from ending) = verbs_alike n (send layout cd from ending) Normal Normal (normal_alike (suc n))
-    does_alike (SwitchInput on terminal cd key) = verbs_alike n (switch_input layout on terminal cd key) Normal Normal (normal_alike (suc n))
-    does_alike (SwitchOutput on cd key) = verbs_alike n (switch_output layout on cd key) Normal Normal (normal_alike (suc n))
-    does_alike (Accept cd) = verbs_alike n (accept layout cd) Normal Normal (normal_alike (suc n))
 
-    all_alike : {m : _} (row : Row_of-Statement m) → AlikeBelow (suc n) (do_all layout text n P row) (do_all layout text (suc n) Q row)
-    all_alike end_of-Statement = record { from = λ run lt. itself _ _ (omega arith) }
-    all_alike (more_of-Statement one others) =
+    all_alike : (block : Block) → AlikeBelow (suc n) (do_all layout text n P block) (do_all layout text (suc n) Q block)
+    all_alike none = record { from = λ run lt. itself _ _ (omega arith) }
+    all_alike (lead one others) =
         record { from = λ run lt. then_alike (suc n) run.left (does layout text n P one run) (does layout text (suc n) Q one run) (do_all layout text n P others) (do_all layout text (suc n) Q others) lt ((does_alike one).from run lt) (all_alike others) }
 
-  in_order_alike : (all : List Statement) → AlikeBelow (suc n) (in_order layout text n P all) (in_order layout text (suc n) Q all)
+  in_order_alike : (all : List Block) → AlikeBelow (suc n) (in_order layout text n P all) (in_order layout text (suc n) Q all)
   in_order_alike [] = record { from = λ run lt. itself _ _ (omega arith) }
   in_order_alike (one ∷ others) =
-      record { from = λ run lt. then_alike (suc n) run.left (does layout text n P one run) (does layout text (suc n) Q one run) (in_order layout text n P others) (in_order layout text (suc n) Q others) lt ((does_alike one).from run lt) (in_order_alike others) }
+      record { from = λ run lt. then_alike (suc n) run.left (do_all layout text n P one run) (do_all layout text (suc n) Q one run) (in_order layout text n P others) (in_order layout text (suc n) Q others) lt ((all_alike one).from run lt) (in_order_alike others) }
 
   after_same : (k : ℕ) (j i : ℕ → Run → Outcome) (f g : Run → Outcome) → k < suc n → ((to : ℕ) → AlikeBelow n (j to) (i to)) → AlikeBelow (suc n) f g → (o : Outcome) → Within k o → Alike k (after o j f) (after o i g)
   after_same k j i f g lt hj h (Normal run) w = alike_more _ _ _ _ w (h.from run (omega arith))
@@ -164,29 +166,29 @@ module _ (layout : Layout) (text : List Paragraph) (n : ℕ) (P Q : Running) (al
   after_same k j i f g lt hj h (Stops reason run) w = itself _ _ tt
   after_same k j i f g lt hj h (Needs call run) w = itself _ _ tt
 
-  abbrev one : Paragraph → Run → Outcome
-  one p = in_order layout text n P (statements_of p)
+  abbrev one : ParagraphTree → Run → Outcome
+  one p = in_order layout text n P p.sentences
 
-  abbrev other : Paragraph → Run → Outcome
-  other p = in_order layout text (suc n) Q (statements_of p)
+  abbrev other : ParagraphTree → Run → Outcome
+  other p = in_order layout text (suc n) Q p.sentences
 
-  paragraphs_alike : (last : ℕ) (ps : List Paragraph) → AlikeBelow (suc n) (paragraphs_do one (λ to. P to last) ps) (paragraphs_do other (λ to. Q to last) ps)
+  paragraphs_alike : (last : ℕ) (ps : List ParagraphTree) → AlikeBelow (suc n) (paragraphs_do one (λ to. P to last) ps) (paragraphs_do other (λ to. Q to last) ps)
   paragraphs_alike last [] = record { from = λ run lt. itself _ _ (omega arith) }
   paragraphs_alike last (p ∷ ps) =
       let f = paragraphs_do one (λ to. P to last) ps in
       let g = paragraphs_do other (λ to. Q to last) ps in
       record {
         from = λ run lt.
-            let a = (in_order_alike (statements_of p)).from run lt in
+            let a = (in_order_alike p.sentences).from run lt in
             subst (λ q. Alike run.left (after (one p run) (λ to. P to last) f) (after q (λ to. Q to last) g)) a.same
             (after_same run.left (λ to. P to last) (λ to. Q to last) f g lt (λ to. alike to last) (paragraphs_alike last ps) (one p run) a.within);
       }
 
-range_alike : (n : ℕ) (layout : Layout) (text : List Paragraph) (at last : ℕ) → AlikeBelow n (range n layout text at last) (range (suc n) layout text at last)
-range_alike zero layout text at last = record { from = λ run lt. let never : ⊥ = omega arith in absurd never }
-range_alike (suc n) layout text at last =
-    record { from = λ run lt. (paragraphs_alike layout text n (range n layout text) (range (suc n) layout text) (range_alike n layout text) last (from_to text at last)).from run lt }
+range_alike : (n : ℕ) (layout : Layout) (text : List ParagraphTree) (begin last : ℕ) → AlikeBelow n (range n layout text begin last) (range (suc n) layout text begin last)
+range_alike zero layout text begin last = record { from = λ run lt. let never : ⊥ = omega arith in absurd never }
+range_alike (suc n) layout text begin last =
+    record { from = λ run lt. (paragraphs_alike layout text n (range n layout text) (range (suc n) layout text) (range_alike n layout text) last (from_to text begin last)).from run lt }
 
 -- one bound more is the same
-pub range_more : (n : ℕ) (layout : Layout) (text : List Paragraph) (at last : ℕ) (run : Run) → run.left < n → range n layout text at last run ≡ range (suc n) layout text at last run
-range_more n layout text at last run lt = ((range_alike n layout text at last).from run lt).same
+pub range_more : (n : ℕ) (layout : Layout) (text : List ParagraphTree) (begin last : ℕ) (run : Run) → run.left < n → range n layout text begin last run ≡ range (suc n) layout text begin last run
+range_more n layout text begin last run lt = ((range_alike n layout text begin last).from run lt).same

@@ -5,16 +5,15 @@ use Rattle.com_events.specs.declared.call.StopReason.{StopReason}
 use Rattle.com_events.specs.declared.call.StopReason.TheVariants as stop
 use Rattle.com_events.specs.declared.reply.Reply.{Reply}
 use Rattle.com_events.specs.declared.reply.Reply.TheVariants.{Started, Given, NoData, Refused, Waits, AreaIn, AreaOut, Arrived, Done}
-use Rattle.cob_proc.specs.declared.tree.Paragraph.{Paragraph}
 use Rattle.cob_proc.specs.declared.tree.Repetition.{Repetition}
 use Rattle.cob_proc.specs.declared.tree.Repetition.TheVariants as repetition
-use Rattle.cob_proc.specs.declared.tree.Statement.{Statement, Move, Add, Subtract, If', Perform, Go, Exit, Stop, Receive', Send, SwitchInput, SwitchOutput, Accept, Row_of-Statement, end_of-Statement, more_of-Statement}
+use Rattle.cob_proc.specs.Trees.{Plain, moves, adds, subtracts, performs, goes, exits, stops, sends, switches_input, switches_output, accepts, Tree, plain, branches, receives, Block, none, lead, ParagraphTree}
 use Rattle.cob_meaning.specs.Layouts.{Layout}
 use Rattle.cob_meaning.specs.Storage.{Storage}
 use Rattle.cob_meaning.specs.Moves.{add, addend_number, move, subtract}
 use Rattle.cob_meaning.specs.Conditions.{holds}
 use Rattle.cob_meaning.specs.Verbs.{Request, accept, receive, send, switch_input, switch_output, with_reply}
-use Rattle.cob_meaning.specs.Meaning.{Run, Outcome, Normal, Jump, Stops, Needs, then_do, begun_with, begun, changed_to, changed, choice, times, so_often, until, turns, behind_reply, answered, requested, verb_with, verb, paragraph_number, last_of, Running, are_written, does, do_all, in_order, statements_of, after, paragraphs_do, from_to, range}
+use Rattle.cob_meaning.specs.Meaning.{Run, Outcome, Normal, Jump, Stops, Needs, then_do, begun_with, begun, changed_to, changed, choice, times, times_of, until, turns, after_reply, answered, requested, verb_with, verb, paragraph_number, last_of, Running, are_written, plain_does, does, do_all, in_order, after, paragraphs_do, from_to, range}
 
 -- a fact of runs, of runs that stopped, and of runs that want a reply to a call
 pub record Facts : Type 1 where
@@ -92,7 +91,7 @@ module _ (facts : Facts) where
       let b = begun_lasts (λ r. then_do (f r) (times k f)) (then_lasts f (times k f) a (times_lasts k f a)) in
       record { from = λ run h. b.from run h }
 
-  often_fine : (f : Run → Outcome) → Lasts f → (n : Option ℕ) (run : Run) → facts.Holds run → Fine (so_often n f run)
+  often_fine : (f : Run → Outcome) → Lasts f → (n : Option ℕ) (run : Run) → facts.Holds run → Fine (times_of n f run)
   often_fine f a None run h = facts.fault run h
   often_fine f a (Some k) run h = (times_lasts k f a).from run h
 
@@ -108,7 +107,7 @@ module _ (facts : Facts) where
   turns_lasts n layout (repetition.Times counted) f a = record { from = λ run h. often_fine f a (addend_number layout counted run.storage) run h }
   turns_lasts n layout (repetition.Until condition) f a = let b = until_lasts n (holds layout condition) f a in record { from = λ run h. b.from run h }
 
-  behind_lasts : (f : Run → Outcome) → Lasts f → (r : Reply) → Lasts (behind_reply r f)
+  behind_lasts : (f : Run → Outcome) → Lasts f → (r : Reply) → Lasts (after_reply r f)
   behind_lasts f a (NoData area) = record { from = λ run h. a.from run h }
   behind_lasts f a (Started names) = normal_lasts
   behind_lasts f a (Given area text) = normal_lasts
@@ -136,78 +135,84 @@ module _ (facts : Facts) where
   verb_lasts : (request : Storage → Option Request) → Asks request → (f : Run → Outcome) → Lasts f → Lasts (begun (verb request f))
   verb_lasts request k f a = begun_lasts (verb request f) (record { from = λ run h. verb_fine request k f a run.verbs run h })
 
-  module _ (layout : Layout) (text : List Paragraph) where
+  module _ (layout : Layout) (text : List ParagraphTree) where
+    abbrev pub PlainKept : Plain → Type 0
+    PlainKept (moves source targets) = Keeps (move layout source targets)
+    PlainKept (adds addend target) = Keeps (add layout addend target)
+    PlainKept (subtracts addend target) = Keeps (subtract layout addend target)
+    PlainKept (performs first last often) = Unit {0}
+    PlainKept (goes target) = Unit {0}
+    PlainKept exits = Unit {0}
+    PlainKept stops = Unit {0}
+    PlainKept (sends cd from ending) = Asks (send layout cd from ending)
+    PlainKept (switches_input on terminal cd key) = Asks (switch_input layout on terminal cd key)
+    PlainKept (switches_output on cd key) = Asks (switch_output layout on cd key)
+    PlainKept (accepts cd) = Asks (accept layout cd)
+
     -- each change and each verb of a statement keeps it
     abbrev mutual
-      pub Kept : Statement → Type 0
-      Kept (Move source targets) = Keeps (move layout source targets)
-      Kept (Add addend target) = Keeps (add layout addend target)
-      Kept (Subtract addend target) = Keeps (subtract layout addend target)
-      Kept (If' position condition _ one _ other) = AllKept one × AllKept other
-      Kept (Perform first last often) = Unit {0}
-      Kept (Go target) = Unit {0}
-      Kept Exit = Unit {0}
-      Kept Stop = Unit {0}
-      Kept (Receive' cd segment into _ no_data) = Asks (receive layout cd segment into (are_written no_data)) × AllKept no_data
-      Kept (Send cd from ending) = Asks (send layout cd from ending)
-      Kept (SwitchInput on terminal cd key) = Asks (switch_input layout on terminal cd key)
-      Kept (SwitchOutput on cd key) = Asks (switch_output layout on cd key)
-      Kept (Accept cd) = Asks (accept layout cd)
+      pub Kept : Tree → Type 0
+      Kept (plain statement) = PlainKept statement
+      Kept (branches position condition one other) = AllKept one × AllKept other
+      Kept (receives cd segment into no_data) = Asks (receive layout cd segment into (are_written no_data)) × AllKept no_data
 
-      pub AllKept : {m : _} → Row_of-Statement m → Type 0
-      AllKept end_of-Statement = Unit {0}
-      AllKept (more_of-Statement one others) = Kept one × AllKept others
+      pub AllKept : Block → Type 0
+      AllKept none = Unit {0}
+      AllKept (lead one others) = Kept one × AllKept others
 
-    abbrev pub AreKept : List Statement → Type 0
+    abbrev pub AreKept : List Block → Type 0
     AreKept [] = Unit {0}
-    AreKept (one ∷ others) = Kept one × AreKept others
+    AreKept (one ∷ others) = AllKept one × AreKept others
 
-    abbrev pub IsTextKept : List Paragraph → Type 0
+    abbrev pub IsTextKept : List ParagraphTree → Type 0
     IsTextKept [] = Unit {0}
-    IsTextKept (p ∷ ps) = AreKept (statements_of p) × IsTextKept ps
+    IsTextKept (p ∷ ps) = AreKept p.sentences × IsTextKept ps
 
-    take_kept : (n : ℕ) (ps : List Paragraph) → IsTextKept ps → IsTextKept (take n ps)
+    take_kept : (n : ℕ) (ps : List ParagraphTree) → IsTextKept ps → IsTextKept (take n ps)
     take_kept zero ps k = tt
     take_kept (suc n) [] k = tt
     take_kept (suc n) (p ∷ ps) k = (k.0, take_kept n ps k.1)
 
-    drop_kept : (n : ℕ) (ps : List Paragraph) → IsTextKept ps → IsTextKept (drop n ps)
+    drop_kept : (n : ℕ) (ps : List ParagraphTree) → IsTextKept ps → IsTextKept (drop n ps)
     drop_kept zero ps k = k
     drop_kept (suc n) [] k = tt
     drop_kept (suc n) (p ∷ ps) k = drop_kept n ps k.1
 
-    module _ (n : ℕ) (P : Running) (lasts : (at last : ℕ) → Lasts (P at last)) where
+    module _ (n : ℕ) (P : Running) (lasts : (begin last : ℕ) → Lasts (P begin last)) where
+      plain_lasts : (s : Plain) → PlainKept s → Lasts (begun (plain_does layout text n P s))
+      plain_lasts (moves source targets) k = changed_lasts (move layout source targets) k
+      plain_lasts (adds addend target) k = changed_lasts (add layout addend target) k
+      plain_lasts (subtracts addend target) k = changed_lasts (subtract layout addend target) k
+      plain_lasts (performs first last often) k =
+          let f = P (paragraph_number text first) (paragraph_number text (last_of first last)) in
+          begun_lasts (turns n layout often f) (turns_lasts n layout often f (lasts _ _))
+      plain_lasts (goes target) k = begun_lasts (Jump (paragraph_number text target)) (record { from = λ run h. h })
+      plain_lasts exits k = begun_lasts Normal normal_lasts
+      plain_lasts stops k = begun_lasts (Stops stop.Run) (record { from = λ run h. facts.ends run h })
+      plain_lasts (sends cd from ending) k = verb_lasts (send layout cd from ending) k Normal normal_lasts
+      plain_lasts (switches_input on terminal cd key) k = verb_lasts (switch_input layout on terminal cd key) k Normal normal_lasts
+      plain_lasts (switches_output on cd key) k = verb_lasts (switch_output layout on cd key) k Normal normal_lasts
+      plain_lasts (accepts cd) k = verb_lasts (accept layout cd) k Normal normal_lasts
+
       mutual
-        does_lasts : (s : Statement) → Kept s → Lasts (does layout text n P s)
-        does_lasts (Move source targets) k = changed_lasts (move layout source targets) k
-        does_lasts (Add addend target) k = changed_lasts (add layout addend target) k
-        does_lasts (Subtract addend target) k = changed_lasts (subtract layout addend target) k
-        does_lasts (If' position condition _ one _ other) k =
+        does_lasts : (s : Tree) → Kept s → Lasts (does layout text n P s)
+        does_lasts (plain statement) k = plain_lasts statement k
+        does_lasts (branches position condition one other) k =
             begun_lasts (λ run. choice (holds layout condition run.storage) (do_all layout text n P one) (do_all layout text n P other) run)
             (choice_lasts (holds layout condition) (do_all layout text n P one) (do_all layout text n P other) (all_last one k.0) (all_last other k.1))
-        does_lasts (Perform first last often) k =
-            let f = P (paragraph_number text first) (paragraph_number text (last_of first last)) in
-            begun_lasts (turns n layout often f) (turns_lasts n layout often f (lasts _ _))
-        does_lasts (Go target) k = begun_lasts (Jump (paragraph_number text target)) (record { from = λ run h. h })
-        does_lasts Exit k = begun_lasts Normal normal_lasts
-        does_lasts Stop k = begun_lasts (Stops stop.Run) (record { from = λ run h. facts.ends run h })
-        does_lasts (Receive' cd segment into _ no_data) k =
+        does_lasts (receives cd segment into no_data) k =
             verb_lasts (receive layout cd segment into (are_written no_data)) k.0 (do_all layout text n P no_data) (all_last no_data k.1)
-        does_lasts (Send cd from ending) k = verb_lasts (send layout cd from ending) k Normal normal_lasts
-        does_lasts (SwitchInput on terminal cd key) k = verb_lasts (switch_input layout on terminal cd key) k Normal normal_lasts
-        does_lasts (SwitchOutput on cd key) k = verb_lasts (switch_output layout on cd key) k Normal normal_lasts
-        does_lasts (Accept cd) k = verb_lasts (accept layout cd) k Normal normal_lasts
 
-        all_last : {m : _} (row : Row_of-Statement m) → AllKept row → Lasts (do_all layout text n P row)
-        all_last end_of-Statement k = record { from = λ run h. h }
-        all_last (more_of-Statement one others) k =
+        all_last : (block : Block) → AllKept block → Lasts (do_all layout text n P block)
+        all_last none k = record { from = λ run h. h }
+        all_last (lead one others) k =
             let a = then_lasts (does layout text n P one) (do_all layout text n P others) (does_lasts one k.0) (all_last others k.1) in
             record { from = λ run h. a.from run h }
 
-      in_order_lasts : (all : List Statement) → AreKept all → Lasts (in_order layout text n P all)
+      in_order_lasts : (all : List Block) → AreKept all → Lasts (in_order layout text n P all)
       in_order_lasts [] k = record { from = λ run h. h }
       in_order_lasts (one ∷ others) k =
-          let a = then_lasts (does layout text n P one) (in_order layout text n P others) (does_lasts one k.0) (in_order_lasts others k.1) in
+          let a = then_lasts (do_all layout text n P one) (in_order layout text n P others) (all_last one k.0) (in_order_lasts others k.1) in
           record { from = λ run h. a.from run h }
 
       after_fine : (j : ℕ → Run → Outcome) → ((to : ℕ) → Lasts (j to)) → (o : Outcome) (g : Run → Outcome) → Fine o → Lasts g → Fine (after o j g)
@@ -216,17 +221,17 @@ module _ (facts : Facts) where
       after_fine j a (Stops reason run) g h b = h
       after_fine j a (Needs call run) g h b = h
 
-      paragraphs_last : (last : ℕ) (ps : List Paragraph) → IsTextKept ps
-          → Lasts (paragraphs_do (λ p. in_order layout text n P (statements_of p)) (λ to. P to last) ps)
+      paragraphs_last : (last : ℕ) (ps : List ParagraphTree) → IsTextKept ps
+          → Lasts (paragraphs_do (λ p. in_order layout text n P p.sentences) (λ to. P to last) ps)
       paragraphs_last last [] k = record { from = λ run h. h }
       paragraphs_last last (p ∷ ps) k = record {
-        from = λ run h. after_fine (λ to. P to last) (λ to. lasts to last) (in_order layout text n P (statements_of p) run)
-            (paragraphs_do (λ p. in_order layout text n P (statements_of p)) (λ to. P to last) ps)
-            ((in_order_lasts (statements_of p) k.0).from run h) (paragraphs_last last ps k.1);
+        from = λ run h. after_fine (λ to. P to last) (λ to. lasts to last) (in_order layout text n P p.sentences run)
+            (paragraphs_do (λ p. in_order layout text n P p.sentences) (λ to. P to last) ps)
+            ((in_order_lasts p.sentences k.0).from run h) (paragraphs_last last ps k.1);
       }
 
-    pub range_lasts : (n : ℕ) → IsTextKept text → (at last : ℕ) → Lasts (range n layout text at last)
-    range_lasts zero k at last = record { from = λ run h. facts.limit run h }
-    range_lasts (suc n) k at last =
-        let a = paragraphs_last n (range n layout text) (λ x y. range_lasts n k x y) last (from_to text at last) (drop_kept at (take (last + 1) text) (take_kept (last + 1) text k)) in
+    pub range_lasts : (n : ℕ) → IsTextKept text → (begin last : ℕ) → Lasts (range n layout text begin last)
+    range_lasts zero k begin last = record { from = λ run h. facts.limit run h }
+    range_lasts (suc n) k begin last =
+        let a = paragraphs_last n (range n layout text) (λ x y. range_lasts n k x y) last (from_to text begin last) (drop_kept begin (take (last + 1) text) (take_kept (last + 1) text k)) in
         record { from = λ run h. a.from run h }

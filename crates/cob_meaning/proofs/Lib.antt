@@ -1,32 +1,36 @@
-mod Trees
-mod SmallPrograms
-mod WorkedMoves
-mod WorkedRuns
-mod WorkedPrograms
-mod WorkedFollows
-mod WorkedPasses
-mod Steady
-mod Replies
-mod Bounds
-mod WorkedSources
-mod Placed
-mod SameTrees
-mod WorkedFaults
+pub mod Bounds
+pub mod CheckedParts
+pub mod CheckedText
 mod Divided
-mod Lasting
-mod NeverIdle
+pub mod FirstFaults
 mod Fronts
+mod Lasting
+pub mod Members
+mod NeverIdle
+pub mod OneProgram
+mod Placed
+pub mod RangeFaults
+pub mod Readable
+mod Replies
+mod SmallPrograms
+mod SoundTokens
+mod Steady
 mod Stored
+mod Trees
 mod WellFormed
 mod WellFormedRuns
+mod WorkedFaults
+mod WorkedFollows
+mod WorkedForms
+mod WorkedLimits
+mod WorkedMoves
+mod WorkedNames
+mod WorkedOneName
+mod WorkedPasses
+mod WorkedPrograms
+mod WorkedRuns
 mod WorkedSound
-mod TreeMeaning
-mod TreeFaults
-mod OneProgram
+mod WorkedSources
+mod WorkedStops
 mod WorkedTrees
 mod WorkedVerbs
-mod WorkedStops
-mod WorkedLimits
-mod WorkedNames
-mod WorkedForms
-mod WorkedOneName

@@ -3,13 +3,12 @@ use Rattle.std.proofs.Common.{◌≡◌, ℕ, ◌+◌, ◌-◌, List, [], ◌∷
 use Rattle.com_events.specs.declared.call.StopReason.{StopReason}
 use Rattle.com_events.specs.declared.call.StopReason.TheVariants as stop
 use Rattle.com_events.specs.declared.reply.Reply.{Reply}
-use Rattle.cob_proc.specs.declared.tree.Paragraph.{Paragraph}
-use Rattle.cob_proc.specs.declared.tree.Statement.{Statement, Move, Add, Subtract, If', Perform, Go, Exit, Stop, Receive', Send, SwitchInput, SwitchOutput, Accept, Row_of-Statement, end_of-Statement, more_of-Statement}
+use Rattle.cob_proc.specs.Trees.{Plain, moves, adds, subtracts, performs, goes, exits, stops, sends, switches_input, switches_output, accepts, Tree, plain, branches, receives, Block, none, lead, ParagraphTree}
 use Rattle.cob_meaning.specs.Layouts.{Layout}
 use Rattle.cob_meaning.specs.Storage.{Storage}
 use Rattle.cob_meaning.specs.Verbs.{Request}
-use Rattle.cob_meaning.specs.Meaning.{Outcome, Normal, Jump, Stops, Needs, Ending, Stopped, Wants, Limits, Program, beginning, meaning, meaning_of, meaning_within, statements_of, unit_limits}
-use Rattle.cob_meaning.proofs.Lasting.{Facts, Keeps, Asks, Fine, Kept, AllKept, AreKept, IsTextKept, range_lasts}
+use Rattle.cob_meaning.specs.Meaning.{Outcome, Normal, Jump, Stops, Needs, Ending, Stopped, Wants, Limits, Program, beginning, meaning, meaning_of, meaning_within, unit_limits}
+use Rattle.cob_meaning.proofs.Lasting.{Facts, Keeps, Asks, Fine, Kept, PlainKept, AllKept, AreKept, IsTextKept, range_lasts}
 
 -- a reason that a program has
 abbrev pub IsOwn : StopReason → Type 0
@@ -35,34 +34,37 @@ keeps effect = record { from = λ run storage h e. tt }
 asks : (request : Storage → Option Request) → Asks own_reasons request
 asks request = record { wants = λ run verbs asked h e empty. tt; takes = λ run verbs asked reply rest h e next. tt; stops = λ run verbs h e. tt }
 
-module _ (layout : Layout) (text : List Paragraph) where
+module _ (layout : Layout) (text : List ParagraphTree) where
+  plain_kept : (s : Plain) → PlainKept own_reasons layout text s
+  plain_kept (moves source targets) = keeps _
+  plain_kept (adds addend target) = keeps _
+  plain_kept (subtracts addend target) = keeps _
+  plain_kept (performs first last often) = tt
+  plain_kept (goes target) = tt
+  plain_kept exits = tt
+  plain_kept stops = tt
+  plain_kept (sends cd from ending) = asks _
+  plain_kept (switches_input on terminal cd key) = asks _
+  plain_kept (switches_output on cd key) = asks _
+  plain_kept (accepts cd) = asks _
+
   mutual
-    kept : (s : Statement) → Kept own_reasons layout text s
-    kept (Move source targets) = keeps _
-    kept (Add addend target) = keeps _
-    kept (Subtract addend target) = keeps _
-    kept (If' position condition _ one _ other) = (all_kept one, all_kept other)
-    kept (Perform first last often) = tt
-    kept (Go target) = tt
-    kept Exit = tt
-    kept Stop = tt
-    kept (Receive' cd segment into _ no_data) = (asks _, all_kept no_data)
-    kept (Send cd from ending) = asks _
-    kept (SwitchInput on terminal cd key) = asks _
-    kept (SwitchOutput on cd key) = asks _
-    kept (Accept cd) = asks _
+    kept : (s : Tree) → Kept own_reasons layout text s
+    kept (plain statement) = plain_kept statement
+    kept (branches position condition one other) = (all_kept one, all_kept other)
+    kept (receives cd segment into no_data) = (asks _, all_kept no_data)
 
-    all_kept : {m : _} (row : Row_of-Statement m) → AllKept own_reasons layout text row
-    all_kept end_of-Statement = tt
-    all_kept (more_of-Statement one others) = (kept one, all_kept others)
+    all_kept : (block : Block) → AllKept own_reasons layout text block
+    all_kept none = tt
+    all_kept (lead one others) = (kept one, all_kept others)
 
-  are_kept : (all : List Statement) → AreKept own_reasons layout text all
+  are_kept : (all : List Block) → AreKept own_reasons layout text all
   are_kept [] = tt
-  are_kept (one ∷ others) = (kept one, are_kept others)
+  are_kept (one ∷ others) = (all_kept one, are_kept others)
 
-  is_kept : (ps : List Paragraph) → IsTextKept own_reasons layout text ps
+  is_kept : (ps : List ParagraphTree) → IsTextKept own_reasons layout text ps
   is_kept [] = tt
-  is_kept (p ∷ ps) = (are_kept (statements_of p), is_kept ps)
+  is_kept (p ∷ ps) = (are_kept p.sentences, is_kept ps)
 
 abbrev pub NotIdle : Ending → Type 0
 NotIdle (Stopped reason) = IsOwn reason

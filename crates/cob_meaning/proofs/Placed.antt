@@ -7,9 +7,7 @@ use Rattle.cob_forms.specs.declared.written.Position.{Position}
 use Rattle.cob_proc.specs.declared.tree.Identifier.{Identifier}
 use Rattle.cob_proc.specs.declared.tree.Operand.{Operand}
 use Rattle.cob_proc.specs.declared.tree.Operand.TheVariants as operands
-use Rattle.cob_proc.specs.declared.tree.Paragraph.{Paragraph}
-use Rattle.cob_proc.specs.declared.tree.Statement.{Statement}
-use Rattle.cob_meaning.proofs.Trees.{vec}
+use Rattle.cob_proc.specs.Trees.{Tree, ParagraphTree, block_of}
 
 -- where something stands, in its line and column
 abbrev pub at : ℕ → ℕ → Position
@@ -37,5 +35,5 @@ abbrev pub of_number : ℕ → ℕ → List ℕ → Operand
 of_number line column text = operands.Number (digits_at line column text)
 
 -- a paragraph with its sentences, each of some statements
-abbrev pub paragraph_at : ℕ → List ℕ → List (List Statement) → Paragraph
-paragraph_at line text sentences = record { name = name_at line 8 text; sentences = map vec sentences }
+abbrev pub paragraph_at : ℕ → List ℕ → List (List Tree) → ParagraphTree
+paragraph_at line text sentences = record { name = name_at line 8 text; sentences = map block_of sentences }

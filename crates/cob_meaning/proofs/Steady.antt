@@ -5,16 +5,15 @@ use Rattle.com_events.specs.declared.call.StopReason.{StopReason}
 use Rattle.com_events.specs.declared.call.StopReason.TheVariants as stop
 use Rattle.com_events.specs.declared.reply.Reply.{Reply}
 use Rattle.com_events.specs.declared.reply.Reply.TheVariants.{Started, Given, NoData, Refused, Waits, AreaIn, AreaOut, Arrived, Done}
-use Rattle.cob_proc.specs.declared.tree.Paragraph.{Paragraph}
 use Rattle.cob_proc.specs.declared.tree.Repetition.{Repetition}
 use Rattle.cob_proc.specs.declared.tree.Repetition.TheVariants as repetition
-use Rattle.cob_proc.specs.declared.tree.Statement.{Statement, Move, Add, Subtract, If', Perform, Go, Exit, Stop, Receive', Send, SwitchInput, SwitchOutput, Accept, Row_of-Statement, end_of-Statement, more_of-Statement}
+use Rattle.cob_proc.specs.Trees.{Plain, moves, adds, subtracts, performs, goes, exits, stops, sends, switches_input, switches_output, accepts, Tree, plain, branches, receives, Block, none, lead, ParagraphTree}
 use Rattle.cob_meaning.specs.Layouts.{Layout}
 use Rattle.cob_meaning.specs.Storage.{Storage}
 use Rattle.cob_meaning.specs.Moves.{add, addend_number, move, subtract}
 use Rattle.cob_meaning.specs.Conditions.{holds}
 use Rattle.cob_meaning.specs.Verbs.{Request, accept, receive, send, switch_input, switch_output, with_reply}
-use Rattle.cob_meaning.specs.Meaning.{Run, Outcome, Normal, Jump, Stops, Needs, then_do, begun_with, begun, changed_to, changed, choice, times, so_often, until, turns, behind_reply, answered, requested, verb_with, verb, paragraph_number, last_of, Running, are_written, does, do_all, in_order, statements_of, after, paragraphs_do, from_to, range}
+use Rattle.cob_meaning.specs.Meaning.{Run, Outcome, Normal, Jump, Stops, Needs, then_do, begun_with, begun, changed_to, changed, choice, times, times_of, until, turns, after_reply, answered, requested, verb_with, verb, paragraph_number, last_of, Running, are_written, plain_does, does, do_all, in_order, after, paragraphs_do, from_to, range}
 use Rattle.com_events.specs.Fronts.{IsPrefixOf}
 
 -- where a run stands when it ends so
@@ -176,15 +175,15 @@ module _ (reply : Reply) (rest : List Reply) where
       let a = begun_steady (λ r. then_do (f r) (times k f)) (then_steady f (times k f) h (times_steady k f h)) in
       record { grows = λ run. a.grows run; spent = λ run. a.spent run; further = λ run. a.further run }
 
-  often_grows : (f : Run → Outcome) → Steady f → (n : Option ℕ) (run : Run) → Grown run (so_often n f run)
+  often_grows : (f : Run → Outcome) → Steady f → (n : Option ℕ) (run : Run) → Grown run (times_of n f run)
   often_grows f h None run = unchanged run (Stops stop.DataFault run) refl refl (omega arith)
   often_grows f h (Some k) run = (times_steady k f h).grows run
 
-  often_spent : (f : Run → Outcome) → Steady f → (n : Option ℕ) (run : Run) → IsSpent (so_often n f run)
+  often_spent : (f : Run → Outcome) → Steady f → (n : Option ℕ) (run : Run) → IsSpent (times_of n f run)
   often_spent f h None run = tt
   often_spent f h (Some k) run = (times_steady k f h).spent run
 
-  often_further : (f : Run → Outcome) → Steady f → (n : Option ℕ) (run : Run) → Further (so_often n f run) (so_often n f (with_more run))
+  often_further : (f : Run → Outcome) → Steady f → (n : Option ℕ) (run : Run) → Further (times_of n f run) (times_of n f (with_more run))
   often_further f h None run = refl
   often_further f h (Some k) run = (times_steady k f h).further run
 
@@ -206,7 +205,7 @@ module _ (reply : Reply) (rest : List Reply) where
       let a = until_steady n (holds layout condition) f h in
       record { grows = λ run. a.grows run; spent = λ run. a.spent run; further = λ run. a.further run }
 
-  behind_steady : (f : Run → Outcome) → Steady f → (r : Reply) → Steady (behind_reply r f)
+  behind_steady : (f : Run → Outcome) → Steady f → (r : Reply) → Steady (after_reply r f)
   behind_steady f h (NoData area) = record { grows = λ run. h.grows run; spent = λ run. h.spent run; further = λ run. h.further run }
   behind_steady f h (Started names) = normal_steady
   behind_steady f h (Given area text) = normal_steady
@@ -225,7 +224,7 @@ module _ (reply : Reply) (rest : List Reply) where
   answered_grows request f h [] run e = unchanged (before run) (Needs request.call run) refl refl (omega arith)
   answered_grows request f h (r ∷ rs) run e =
       let t : Run = record run { storage = with_reply request r run.storage; calls = run.calls ++ request.call ∷ []; replies = rs } in
-      grown_on (before run) t (behind_reply r f t) (request.call ∷ []) refl (omega (arith, ap length e)) (omega arith) ((behind_steady f h r).grows t)
+      grown_on (before run) t (after_reply r f t) (request.call ∷ []) refl (omega (arith, ap length e)) (omega arith) ((behind_steady f h r).grows t)
 
   answered_spent : (request : Request) (f : Run → Outcome) → Steady f → (rs : List Reply) (run : Run) → run.replies ≡ rs → IsSpent (answered request f rs run)
   answered_spent request f h [] run e = e
@@ -273,38 +272,41 @@ module _ (reply : Reply) (rest : List Reply) where
     further = λ run. verb_further request f h run.verbs run;
   })
 
-  module _ (layout : Layout) (text : List Paragraph) (n : ℕ) (P : Running) (steady : (at last : ℕ) → Steady (P at last)) where
+  module _ (layout : Layout) (text : List ParagraphTree) (n : ℕ) (P : Running) (steady : (begin last : ℕ) → Steady (P begin last)) where
+    plain_steady : (s : Plain) → Steady (begun (plain_does layout text n P s))
+    plain_steady (moves source targets) = changed_steady (move layout source targets)
+    plain_steady (adds addend target) = changed_steady (add layout addend target)
+    plain_steady (subtracts addend target) = changed_steady (subtract layout addend target)
+    plain_steady (performs first last often) =
+        let f = P (paragraph_number text first) (paragraph_number text (last_of first last)) in
+        begun_steady (turns n layout often f) (turns_steady n layout often f (steady _ _))
+    plain_steady (goes target) = begun_steady (Jump (paragraph_number text target)) (jump_steady _)
+    plain_steady exits = begun_steady Normal normal_steady
+    plain_steady stops = begun_steady (Stops stop.Run) (stops_steady stop.Run)
+    plain_steady (sends cd from ending) = verb_steady (send layout cd from ending) Normal normal_steady
+    plain_steady (switches_input on terminal cd key) = verb_steady (switch_input layout on terminal cd key) Normal normal_steady
+    plain_steady (switches_output on cd key) = verb_steady (switch_output layout on cd key) Normal normal_steady
+    plain_steady (accepts cd) = verb_steady (accept layout cd) Normal normal_steady
+
     mutual
-      does_steady : (s : Statement) → Steady (does layout text n P s)
-      does_steady (Move source targets) = changed_steady (move layout source targets)
-      does_steady (Add addend target) = changed_steady (add layout addend target)
-      does_steady (Subtract addend target) = changed_steady (subtract layout addend target)
-      does_steady (If' position condition _ one _ other) =
+      does_steady : (s : Tree) → Steady (does layout text n P s)
+      does_steady (plain statement) = plain_steady statement
+      does_steady (branches position condition one other) =
           begun_steady (λ run. choice (holds layout condition run.storage) (do_all layout text n P one) (do_all layout text n P other) run)
           (choice_steady (holds layout condition) (do_all layout text n P one) (do_all layout text n P other) (all_steady one) (all_steady other))
-      does_steady (Perform first last often) =
-          let f = P (paragraph_number text first) (paragraph_number text (last_of first last)) in
-          begun_steady (turns n layout often f) (turns_steady n layout often f (steady _ _))
-      does_steady (Go target) = begun_steady (Jump (paragraph_number text target)) (jump_steady _)
-      does_steady Exit = begun_steady Normal normal_steady
-      does_steady Stop = begun_steady (Stops stop.Run) (stops_steady stop.Run)
-      does_steady (Receive' cd segment into _ no_data) =
+      does_steady (receives cd segment into no_data) =
           verb_steady (receive layout cd segment into (are_written no_data)) (do_all layout text n P no_data) (all_steady no_data)
-      does_steady (Send cd from ending) = verb_steady (send layout cd from ending) Normal normal_steady
-      does_steady (SwitchInput on terminal cd key) = verb_steady (switch_input layout on terminal cd key) Normal normal_steady
-      does_steady (SwitchOutput on cd key) = verb_steady (switch_output layout on cd key) Normal normal_steady
-      does_steady (Accept cd) = verb_steady (accept layout cd) Normal normal_steady
 
-      all_steady : {m : _} (row : Row_of-Statement m) → Steady (do_all layout text n P row)
-      all_steady end_of-Statement = record { grows = λ run. unchanged run (Normal run) refl refl (omega arith); spent = λ run. tt; further = λ run. refl }
-      all_steady (more_of-Statement one others) =
+      all_steady : (block : Block) → Steady (do_all layout text n P block)
+      all_steady none = record { grows = λ run. unchanged run (Normal run) refl refl (omega arith); spent = λ run. tt; further = λ run. refl }
+      all_steady (lead one others) =
           let a = then_steady (does layout text n P one) (do_all layout text n P others) (does_steady one) (all_steady others) in
           record { grows = λ run. a.grows run; spent = λ run. a.spent run; further = λ run. a.further run }
 
-    in_order_steady : (all : List Statement) → Steady (in_order layout text n P all)
+    in_order_steady : (all : List Block) → Steady (in_order layout text n P all)
     in_order_steady [] = record { grows = λ run. unchanged run (Normal run) refl refl (omega arith); spent = λ run. tt; further = λ run. refl }
     in_order_steady (one ∷ others) =
-        let a = then_steady (does layout text n P one) (in_order layout text n P others) (does_steady one) (in_order_steady others) in
+        let a = then_steady (do_all layout text n P one) (in_order layout text n P others) (all_steady one) (in_order_steady others) in
         record { grows = λ run. a.grows run; spent = λ run. a.spent run; further = λ run. a.further run }
 
   module _ (j : ℕ → Run → Outcome) (jump : (to : ℕ) → Steady (j to)) where
@@ -328,7 +330,7 @@ module _ (reply : Reply) (rest : List Reply) where
         let a = after_grows (end_of p) p g (unchanged (end_of p) p refl refl (omega arith)) h in
         (e.0 ++ a.new, a.calls ∙ ap (λ calls. calls ++ a.new) e.1 ∙ append_assoc (t.calls ++ call ∷ []) e.0 a.new)
 
-    paragraphs_steady : (one : Paragraph → Run → Outcome) → ((p : Paragraph) → Steady (one p)) → (ps : List Paragraph) → Steady (paragraphs_do one j ps)
+    paragraphs_steady : (one : ParagraphTree → Run → Outcome) → ((p : ParagraphTree) → Steady (one p)) → (ps : List ParagraphTree) → Steady (paragraphs_do one j ps)
     paragraphs_steady one h [] = record { grows = λ run. unchanged run (Normal run) refl refl (omega arith); spent = λ run. tt; further = λ run. refl }
     paragraphs_steady one h (p ∷ ps) =
         let g = paragraphs_do one j ps in
@@ -339,10 +341,10 @@ module _ (reply : Reply) (rest : List Reply) where
           further = λ run. after_further (one p run) (one p (with_more run)) g ((h p).further run) k;
         }
 
-  pub range_steady : (n : ℕ) (layout : Layout) (text : List Paragraph) (at last : ℕ) → Steady (range n layout text at last)
-  range_steady zero layout text at last = record { grows = λ run. unchanged run (Stops stop.Limit run) refl refl (omega arith); spent = λ run. tt; further = λ run. refl }
-  range_steady (suc n) layout text at last =
-      let one = λ (p : Paragraph). in_order layout text n (range n layout text) (statements_of p) in
+  pub range_steady : (n : ℕ) (layout : Layout) (text : List ParagraphTree) (begin last : ℕ) → Steady (range n layout text begin last)
+  range_steady zero layout text begin last = record { grows = λ run. unchanged run (Stops stop.Limit run) refl refl (omega arith); spent = λ run. tt; further = λ run. refl }
+  range_steady (suc n) layout text begin last =
+      let one = λ (p : ParagraphTree). in_order layout text n (range n layout text) p.sentences in
       let a = paragraphs_steady (λ to. range n layout text to last) (λ to. range_steady n layout text to last) one
-      (λ p. in_order_steady layout text n (range n layout text) (λ x y. range_steady n layout text x y) (statements_of p)) (from_to text at last) in
+      (λ p. in_order_steady layout text n (range n layout text) (λ x y. range_steady n layout text x y) p.sentences) (from_to text begin last) in
       record { grows = λ run. a.grows run; spent = λ run. a.spent run; further = λ run. a.further run }

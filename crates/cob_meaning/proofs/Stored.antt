@@ -1,6 +1,7 @@
 -- The storage of a run keeps the lengths of its areas, and holds texts.
-use Rattle.std.proofs.Common.{◌≡◌, ◌⊎◌, inl, inr, ℕ, zero, suc, ◌+◌, ◌-◌, ◌*◌, ◌≤◌, Bool, true, false, List, [], ◌∷◌, ◌++◌, length, drop, Option, Some, None, refl, sym, ap, subst, ◌∙◌, arith, length-append, length-drop, ◌&&◌, nat_le, bytes_eq, if◌then◌else◌}
+use Rattle.std.proofs.Common.{cond, ◌≡◌, ◌⊎◌, inl, inr, ℕ, zero, suc, ◌+◌, ◌-◌, ◌*◌, ◌≤◌, Bool, true, false, List, [], ◌∷◌, ◌++◌, length, drop, Option, Some, None, refl, sym, ap, subst, ◌∙◌, arith, length-append, length-drop, ◌&&◌, nat_le, bytes_eq, if◌then◌else◌}
 use Rattle.std.specs.List.{AllByRecursion}
+use Rattle.std.specs.Prelude.{find, option_map}
 use Rattle.std.proofs.lemmas.List.{length-take, length-replicate}
 use Rattle.std.proofs.lemmas.Bool.{and_parts}
 use Rattle.std.proofs.lemmas.Bool.Decides.{nat_tests}
@@ -18,20 +19,24 @@ use Rattle.cob_proc.specs.declared.tree.Identifier.{Identifier}
 use Rattle.cob_proc.specs.declared.tree.Operand.{Operand}
 use Rattle.cob_proc.specs.declared.tree.Operand.TheVariants as operands
 use Rattle.cob_proc.specs.declared.tree.Subscript.{Subscript}
-use Rattle.cob_meaning.specs.Layouts.{◌>>=◌, Holding, of_characters, of_digits, of_items, Item, Layout, Meant, an_item, an_input, an_output, item_meant, item_of, meant, meant_in, occurrence}
-use Rattle.cob_meaning.specs.Moves.{Content, a_number, a_text, a_group, all_spaces, all_zeros, addend_number, combined, content_at, content_of, filled, from_left, from_right, item_at, move, moved, subscript_number, subscripted}
-use Rattle.cob_meaning.specs.Sound.{IsItemIn, IsMeantIn, IsSound, IsTextOperand, extent_by}
-use Rattle.cob_meaning.specs.Storage.{Storage, area_in, held_by, number_held, number_in, with_area, with_front}
+use Rattle.cob_data.specs.declared.tree.ItemPlace.{ItemPlace}
+use Rattle.cob_data.specs.declared.tree.ItemSort.{ItemSort}
+use Rattle.cob_data.specs.declared.tree.ItemSort.TheVariants.{Characters as Alphanumeric, Digits as Numeric, Group}
+use Rattle.cob_data.specs.Layout.{Declared, Referent, data_at, input_cd, output_cd}
+use Rattle.cob_meaning.specs.Layouts.{◌>>=◌, Layout, occurrence, referent, step}
+use Rattle.cob_meaning.specs.Moves.{Content, a_number, a_text, a_group, all_spaces, all_zeros, addend_number, combined, content_at, content_of, filled, from_left, from_right, item_at, item_by, move, moved, subscript_number, subscripted_item}
+use Rattle.cob_meaning.specs.Sound.{IsItemIn, IsReferentIn, IsSound, extent}
+use Rattle.cob_meaning.specs.Storage.{Storage, area_in, held_by, number_held, number_in, with_area, with_prefix}
 
 -- each area holds a text, as long as at the beginning
 abbrev pub IsStorage : List (List ℕ) → Storage → Type 0
 IsStorage opening storage = (k : ℕ) → IsText (area_in storage k) × (length (area_in storage k) ≡ length (area_in opening k))
 
 -- an item as it stands without a subscript, in its area
-pub record IsPlaced (opening : List (List ℕ)) (item : Item) : Type 0 where
-  pub some : 1 ≤ item.width
-  pub few : item.width ≤ 2000
-  pub within : item.start + item.width ≤ length (area_in opening item.area)
+pub record IsPlaced (opening : List (List ℕ)) (item : ItemPlace) : Type 0 where
+  pub some : 1 ≤ item.length
+  pub few : item.length ≤ 2000
+  pub within : item.start + item.length ≤ length (area_in opening item.area)
 
 pub opens : (opening : List (List ℕ)) → AllByRecursion IsText opening → IsStorage opening opening
 opens [] h k = (refl, refl)
@@ -61,26 +66,26 @@ with_area_stored opening storage k characters h text same j = by (area_set stora
     by (inl e) = (subst IsText (sym e.1) text, ap length e.1 ∙ same ∙ ap (λ i. length (area_in opening i)) (sym e.0))
     by (inr e) = (subst IsText (sym e) (h j).0, ap length e ∙ (h j).1)
 
-pub with_front_stored : (opening : List (List ℕ)) (storage : Storage) (item : Item) (front : List ℕ) → IsStorage opening storage → IsPlaced opening item
-    → IsText front → length front ≤ item.width → IsStorage opening (with_front item front storage)
-with_front_stored opening storage item front h p text few =
+pub with_prefix_stored : (opening : List (List ℕ)) (storage : Storage) (item : ItemPlace) (characters : List ℕ) → IsStorage opening storage → IsPlaced opening item
+    → IsText characters → length characters ≤ item.length → IsStorage opening (with_prefix item characters storage)
+with_prefix_stored opening storage item characters h p text few =
     with_area_stored opening storage item.area _ h
-    (IsText-with_part item.start (length front) (area_in storage item.area) front (h item.area).0 text)
-    (length-with_part item.start (length front) (area_in storage item.area) front (omega (arith, (h item.area).1, p.within)) refl ∙ (h item.area).1)
+    (IsText-with_part item.start (length characters) (area_in storage item.area) characters (h item.area).0 text)
+    (length-with_part item.start (length characters) (area_in storage item.area) characters (omega (arith, (h item.area).1, p.within)) refl ∙ (h item.area).1)
 
 -- what an item holds is a text of its length
-pub held_text : (opening : List (List ℕ)) (storage : Storage) (item : Item) → IsStorage opening storage → IsText (held_by item storage)
+pub held_text : (opening : List (List ℕ)) (storage : Storage) (item : ItemPlace) → IsStorage opening storage → IsText (held_by item storage)
 held_text opening storage item h =
-    IsText-take (item.start + item.width - item.start) (drop item.start (area_in storage item.area)) (IsText-drop item.start (area_in storage item.area) (h item.area).0)
+    IsText-take (item.start + item.length - item.start) (drop item.start (area_in storage item.area)) (IsText-drop item.start (area_in storage item.area) (h item.area).0)
 
-pub held_length : (opening : List (List ℕ)) (storage : Storage) (item : Item) → IsStorage opening storage → IsPlaced opening item → length (held_by item storage) ≡ item.width
+pub held_length : (opening : List (List ℕ)) (storage : Storage) (item : ItemPlace) → IsStorage opening storage → IsPlaced opening item → length (held_by item storage) ≡ item.length
 held_length opening storage item h p =
     omega (
       arith,
       (h item.area).1,
       p.within,
       length-drop item.start (area_in storage item.area),
-      length-take (item.start + item.width - item.start) (drop item.start (area_in storage item.area)),
+      length-take (item.start + item.length - item.start) (drop item.start (area_in storage item.area)),
     )
 
 -- ITEMS
@@ -92,94 +97,79 @@ bind_some (Some x) f y e = (x, refl, e)
 pub some_same : {A : Type 0} (x y : A) → Some x ≡ Some y → x ≡ y
 some_same x y e = cc
 
-meant_sound : (opening : List (List ℕ)) (names : List (List ℕ × Meant)) (text : List ℕ) (m : Meant) → AllByRecursion (λ entry. IsMeantIn opening entry.1) names
-    → meant_in names text ≡ Some m → IsMeantIn opening m
-meant_sound opening [] text m h e = absurd cc
-meant_sound opening (entry ∷ entries) text m h e = by (bytes_eq entry.0 text) (λ e. meant_sound opening entries text m h.1 e) e
+some_referent : (opening : List (List ℕ)) (names : List Declared) (text : List ℕ) (r : Referent) → AllByRecursion (λ entry. IsReferentIn opening entry.1) names
+    → option_map (λ entry. entry.1) (find (λ entry. bytes_eq entry.0 text) names) ≡ Some r → IsReferentIn opening r
+some_referent opening [] text r h e = absurd cc
+some_referent opening (entry ∷ entries) text r h e = by (bytes_eq entry.0 text) (λ e. some_referent opening entries text r h.1 e) e
   where
-    by : (b : Bool) → (meant_in entries text ≡ Some m → IsMeantIn opening m) → (if b then Some entry.1 else meant_in entries text) ≡ Some m → IsMeantIn opening m
-    by true others e = subst (IsMeantIn opening) (some_same entry.1 m e) h.0
+    by : (b : Bool) → (option_map (λ entry. entry.1) (find (λ entry. bytes_eq entry.0 text) entries) ≡ Some r → IsReferentIn opening r)
+        → option_map (λ (entry : Declared). entry.1) (cond b (Some entry) (find (λ entry. bytes_eq entry.0 text) entries)) ≡ Some r → IsReferentIn opening r
+    by true others e = subst (IsReferentIn opening) (some_same entry.1 r e) h.0
     by false others e = others e
 
--- what a name means is in its area
-pub meant_is_sound : (layout : Layout) → IsSound layout → (name : Name) (m : Meant) → meant layout name ≡ Some m → IsMeantIn layout.opening m
-meant_is_sound layout sound name m e = meant_sound layout.opening layout.names name.text m sound.names e
+-- what a name stands for is in its area
+pub referent_is_sound : (layout : Layout) → IsSound layout → (name : Name) (r : Referent) → referent layout name ≡ Some r → IsReferentIn layout.opening r
+referent_is_sound layout sound name r e = some_referent layout.opening layout.names name.text r sound.names e
 
--- an item of a name
-pub record Named (layout : Layout) (name : Name) (item : Item) : Type 0 where
-  pub meaning : meant layout name ≡ Some (an_item item)
-  pub lies : IsItemIn layout.opening item
-
-pub named_item : (layout : Layout) → IsSound layout → (name : Name) (item : Item) → item_of layout name ≡ Some item → Named layout name item
-named_item layout sound name item e = by (bind_some (meant layout name) item_meant item e)
-  where
-    by_kind : (m : Meant) → meant layout name ≡ Some m → item_meant m ≡ Some item → Named layout name item
-    by_kind (an_item i) f g =
-        let same = some_same i item g in
-        let there : meant layout name ≡ Some (an_item item) = f ∙ ap (λ x. Some (an_item x)) same in
-        record { meaning = there; lies = meant_is_sound layout sound name (an_item item) there }
-    by_kind (an_input area) f g = absurd cc
-    by_kind (an_output area) f g = absurd cc
-
-    by : ((m : Meant) × (meant layout name ≡ Some m) × (item_meant m ≡ Some item)) → Named layout name item
-    by h = by_kind h.0 h.1 h.2
-
--- an item that an identifier means, beside the item of its name
-pub record Found (layout : Layout) (identifier : Identifier) (item : Item) : Type 0 where
-  pub base : Item
-  pub meaning : meant layout identifier.name ≡ Some (an_item base)
-  pub width : item.width ≡ base.width
+-- an item of an identifier, beside the item of its name without a subscript
+pub record Found (layout : Layout) (identifier : Identifier) (item : ItemPlace) : Type 0 where
+  pub base : ItemPlace
+  pub occurs : Option ℕ
+  pub stands_for : referent layout identifier.name ≡ Some (data_at base occurs)
+  pub size : item.length ≡ base.length
   pub placed : IsPlaced layout.opening item
 
-whole_item : (opening : List (List ℕ)) (base : Item) → base.occurs ≡ None → IsItemIn opening base → IsPlaced opening base
-whole_item opening base none lies = record {
-  some = lies.some;
-  few = lies.few;
-  within = subst (λ o. base.start + extent_by base.width o ≤ length (area_in opening base.area)) none lies.within;
-}
-
-one_occurrence : (opening : List (List ℕ)) (base : Item) (times n : ℕ) → base.occurs ≡ Some times → IsItemIn opening base → 1 ≤ n → n ≤ times
-    → IsPlaced opening (record base { start = base.start + 13 * (n - 1); occurs = None })
-one_occurrence opening base times n many lies first last =
-    let all = subst (λ o. base.start + extent_by base.width o ≤ length (area_in opening base.area)) many lies.within in
-    record { some = lies.some; few = lies.few; within = omega arith }
+one_occurrence : (opening : List (List ℕ)) (base : ItemPlace) (times n : ℕ) → IsItemIn opening base (Some times) → 1 ≤ n → n ≤ times
+    → IsPlaced opening (record base { start = base.start + step * (n - 1) })
+one_occurrence opening base times n lies first last =
+    let all : base.start + (base.length + 13 * (times - 1)) ≤ length (area_in opening base.area) = lies.within in
+    let moved : base.start + 13 * (n - 1) + base.length ≤ length (area_in opening base.area) = omega arith in
+    record { some = lies.some; few = lies.few; within = moved }
 
 in_range : (n times : ℕ) → (nat_le 1 n && nat_le n times) ≡ true → (1 ≤ n) × (n ≤ times)
 in_range n times e = let h = and_parts (nat_le 1 n) (nat_le n times) e in (grind (arith, nat_tests), grind (arith, nat_tests))
 
-pub found_item : (layout : Layout) → IsSound layout → (identifier : Identifier) (storage : Storage) (item : Item) → item_at layout identifier storage ≡ Some item → Found layout identifier item
-found_item layout sound identifier storage item e = outer (bind_some (item_of layout identifier.name) (λ i. subscripted layout storage i i.occurs identifier.subscript) item e)
+pub found_item : (layout : Layout) → IsSound layout → (identifier : Identifier) (storage : Storage) (item : ItemPlace) → item_at layout identifier storage ≡ Some item → Found layout identifier item
+found_item layout sound identifier storage item e = outer (bind_some (referent layout identifier.name) (item_by layout storage identifier.subscript) item e)
   where
-    by_occurrence : (base : Item) → Named layout identifier.name base → (times n : ℕ) → base.occurs ≡ Some times → (b : Bool) → (nat_le 1 n && nat_le n times) ≡ b
-        → (if b then Some (record base { start = base.start + 13 * (n - 1); occurs = None }) else None) ≡ Some item → Found layout identifier item
-    by_occurrence base named times n many true range e =
-        let same : (record base { start = base.start + 13 * (n - 1); occurs = None }) ≡ item = some_same _ item e in
+    by_occurrence : (base : ItemPlace) (times n : ℕ) → referent layout identifier.name ≡ Some (data_at base (Some times)) → (b : Bool) → (nat_le 1 n && nat_le n times) ≡ b
+        → (if b then Some (record base { start = base.start + step * (n - 1) }) else None) ≡ Some item → Found layout identifier item
+    by_occurrence base times n named true range e =
+        let same : (record base { start = base.start + step * (n - 1) }) ≡ item = some_same _ item e in
         let bounds = in_range n times range in
         record {
           base = base;
-          meaning = named.meaning;
-          width = ap (λ (i : Item). i.width) (sym same);
-          placed = subst (IsPlaced layout.opening) same (one_occurrence layout.opening base times n many named.lies bounds.0 bounds.1);
+          occurs = Some times;
+          stands_for = named;
+          size = ap (λ (i : ItemPlace). i.length) (sym same);
+          placed = subst (IsPlaced layout.opening) same (one_occurrence layout.opening base times n (referent_is_sound layout sound identifier.name _ named) bounds.0 bounds.1);
         }
-    by_occurrence base named times n many false range e = absurd cc
+    by_occurrence base times n named false range e = absurd cc
 
-    inner : (base : Item) → Named layout identifier.name base → (o : Option ℕ) (s : Option Subscript) → base.occurs ≡ o → subscripted layout storage base o s ≡ Some item → Found layout identifier item
-    inner base named None None none e =
+    inner : (base : ItemPlace) (o : Option ℕ) (s : Option Subscript) → referent layout identifier.name ≡ Some (data_at base o) → subscripted_item layout storage base o s ≡ Some item → Found layout identifier item
+    inner base None None named e =
         let same = some_same base item e in
+        let lies = referent_is_sound layout sound identifier.name _ named in
         record {
           base = base;
-          meaning = named.meaning;
-          width = ap (λ (i : Item). i.width) (sym same);
-          placed = subst (IsPlaced layout.opening) same (whole_item layout.opening base none named.lies);
+          occurs = None;
+          stands_for = named;
+          size = ap (λ (i : ItemPlace). i.length) (sym same);
+          placed = subst (IsPlaced layout.opening) same (record { some = lies.some; few = lies.few; within = lies.within });
         }
-    inner base named (Some times) (Some s) many e =
+    inner base (Some times) (Some s) named e =
         let h = bind_some (subscript_number layout s storage) (occurrence times base) item e in
-        by_occurrence base named times h.0 many (nat_le 1 h.0 && nat_le h.0 times) refl h.2
-    inner base named None (Some s) none e = absurd cc
-    inner base named (Some times) None many e = absurd cc
+        by_occurrence base times h.0 named (nat_le 1 h.0 && nat_le h.0 times) refl h.2
+    inner base None (Some s) named e = absurd cc
+    inner base (Some times) None named e = absurd cc
 
-    outer : ((base : Item) × (item_of layout identifier.name ≡ Some base) × (subscripted layout storage base base.occurs identifier.subscript ≡ Some item)) → Found layout identifier item
-    outer h = inner h.0 (named_item layout sound identifier.name h.0 h.1) h.0.occurs identifier.subscript refl h.2
+    by_kind : (r : Referent) → referent layout identifier.name ≡ Some r → item_by layout storage identifier.subscript r ≡ Some item → Found layout identifier item
+    by_kind (data_at base occurs) named e = inner base occurs identifier.subscript named e
+    by_kind (input_cd area) named e = absurd cc
+    by_kind (output_cd area occurrences) named e = absurd cc
+
+    outer : ((r : Referent) × (referent layout identifier.name ≡ Some r) × (item_by layout storage identifier.subscript r ≡ Some item)) → Found layout identifier item
+    outer h = by_kind h.0 h.1 h.2
 
 -- WHAT IS MOVED
 
@@ -219,28 +209,34 @@ zeros_filling width = (IsText-zeros width, length-replicate {A = ℕ} width 48)
 digits_filling : (n width : ℕ) → IsFilling width (in_digits n width)
 digits_filling n width = (IsText-in_digits n width, length-in_digits n width)
 
-moved_filling : (content : Content) (holding : Holding) (width : ℕ) (out : List ℕ) → IsTextContent content → moved content holding width ≡ Some out → IsFilling width out
-moved_filling (a_number digits) of_digits width out h e =
+moved_filling : (content : Content) (sort : ItemSort) (width : ℕ) (out : List ℕ) → IsTextContent content → moved content sort width ≡ Some out → IsFilling width out
+moved_filling (a_number digits) Numeric width out h e =
     let b = bind_some (number_in digits) (λ n. Some (in_digits n width)) out e in
     subst (IsFilling width) (some_same _ out b.2) (digits_filling b.0 width)
-moved_filling (a_number digits) of_characters width out h e = subst (IsFilling width) (some_same _ out e) (left_filling width digits h)
-moved_filling (a_number digits) of_items width out h e = subst (IsFilling width) (some_same _ out e) (left_filling width digits h)
-moved_filling (a_text characters) of_digits width out h e = by (all_ascii_digits characters) e
+moved_filling (a_number digits) Alphanumeric width out h e = subst (IsFilling width) (some_same _ out e) (left_filling width digits h)
+moved_filling (a_number digits) Group width out h e = subst (IsFilling width) (some_same _ out e) (left_filling width digits h)
+moved_filling (a_text characters) Numeric width out h e = by (all_ascii_digits characters) e
   where
     by : (b : Bool) → (if b then Some (from_right width characters) else None) ≡ Some out → IsFilling width out
     by true e = subst (IsFilling width) (some_same _ out e) (right_filling width characters h)
     by false e = absurd cc
-moved_filling (a_text characters) of_characters width out h e = subst (IsFilling width) (some_same _ out e) (left_filling width characters h)
-moved_filling (a_text characters) of_items width out h e = subst (IsFilling width) (some_same _ out e) (left_filling width characters h)
-moved_filling (a_group characters) of_characters width out h e = subst (IsFilling width) (some_same _ out e) (left_filling width characters h)
-moved_filling (a_group characters) of_digits width out h e = subst (IsFilling width) (some_same _ out e) (left_filling width characters h)
-moved_filling (a_group characters) of_items width out h e = subst (IsFilling width) (some_same _ out e) (left_filling width characters h)
-moved_filling all_spaces of_characters width out h e = subst (IsFilling width) (some_same _ out e) (spaces_filling width)
-moved_filling all_spaces of_digits width out h e = subst (IsFilling width) (some_same _ out e) (spaces_filling width)
-moved_filling all_spaces of_items width out h e = subst (IsFilling width) (some_same _ out e) (spaces_filling width)
-moved_filling all_zeros of_characters width out h e = subst (IsFilling width) (some_same _ out e) (zeros_filling width)
-moved_filling all_zeros of_digits width out h e = subst (IsFilling width) (some_same _ out e) (zeros_filling width)
-moved_filling all_zeros of_items width out h e = subst (IsFilling width) (some_same _ out e) (zeros_filling width)
+moved_filling (a_text characters) Alphanumeric width out h e = subst (IsFilling width) (some_same _ out e) (left_filling width characters h)
+moved_filling (a_text characters) Group width out h e = subst (IsFilling width) (some_same _ out e) (left_filling width characters h)
+moved_filling (a_group characters) Alphanumeric width out h e = subst (IsFilling width) (some_same _ out e) (left_filling width characters h)
+moved_filling (a_group characters) Numeric width out h e = subst (IsFilling width) (some_same _ out e) (left_filling width characters h)
+moved_filling (a_group characters) Group width out h e = subst (IsFilling width) (some_same _ out e) (left_filling width characters h)
+moved_filling all_spaces Alphanumeric width out h e = subst (IsFilling width) (some_same _ out e) (spaces_filling width)
+moved_filling all_spaces Numeric width out h e = subst (IsFilling width) (some_same _ out e) (spaces_filling width)
+moved_filling all_spaces Group width out h e = subst (IsFilling width) (some_same _ out e) (spaces_filling width)
+moved_filling all_zeros Alphanumeric width out h e = subst (IsFilling width) (some_same _ out e) (zeros_filling width)
+moved_filling all_zeros Numeric width out h e = subst (IsFilling width) (some_same _ out e) (zeros_filling width)
+moved_filling all_zeros Group width out h e = subst (IsFilling width) (some_same _ out e) (zeros_filling width)
+
+-- the literals and numbers that are moved are texts
+abbrev pub IsTextOperand : Operand → Type 0
+IsTextOperand (operands.Literal literal) = IsText literal.characters
+IsTextOperand (operands.Number n) = IsText n.digits
+IsTextOperand _ = Unit {0}
 
 module _ (layout : Layout) (sound : IsSound layout) where
   -- the area in which an item lies is changed by as many characters as the item has, or fewer
@@ -248,22 +244,22 @@ module _ (layout : Layout) (sound : IsSound layout) where
       → filled layout content targets storage ≡ Some after → IsStorage layout.opening after
   filled_stored content t [] storage after h e = subst (IsStorage layout.opening) (some_same storage after e) h
   filled_stored content t (target ∷ targets) storage after h e =
-      let a = bind_some (item_at layout target storage) (λ item. moved content item.holding item.width >>= λ characters. filled layout content targets (with_front item characters storage)) after e in
-      let b = bind_some (moved content a.0.holding a.0.width) (λ characters. filled layout content targets (with_front a.0 characters storage)) after a.2 in
+      let a = bind_some (item_at layout target storage) (λ item. moved content item.sort item.length >>= λ characters. filled layout content targets (with_prefix item characters storage)) after e in
+      let b = bind_some (moved content a.0.sort a.0.length) (λ characters. filled layout content targets (with_prefix a.0 characters storage)) after a.2 in
       let found = found_item layout sound target storage a.0 a.1 in
-      let filling = moved_filling content a.0.holding a.0.width b.0 t b.1 in
-      filled_stored content t targets (with_front a.0 b.0 storage) after
-      (with_front_stored layout.opening storage a.0 b.0 h found.placed filling.0 (omega (arith, filling.1))) b.2
+      let filling = moved_filling content a.0.sort a.0.length b.0 t b.1 in
+      filled_stored content t targets (with_prefix a.0 b.0 storage) after
+      (with_prefix_stored layout.opening storage a.0 b.0 h found.placed filling.0 (omega (arith, filling.1))) b.2
 
   content_text : (source : Operand) → IsTextOperand source → (storage : Storage) (content : Content) → IsStorage layout.opening storage → content_at layout source storage ≡ Some content → IsTextContent content
   content_text (operands.Item identifier) t storage content h e =
-      let a = bind_some (item_at layout identifier storage) (λ item. Some (content_of item.holding (held_by item storage))) content e in
-      subst IsTextContent (some_same _ content a.2) (by a.0.holding (held_by a.0 storage) (held_text layout.opening storage a.0 h))
+      let a = bind_some (item_at layout identifier storage) (λ item. Some (content_of item.sort (held_by item storage))) content e in
+      subst IsTextContent (some_same _ content a.2) (by a.0.sort (held_by a.0 storage) (held_text layout.opening storage a.0 h))
     where
-      by : (holding : Holding) (held : List ℕ) → IsText held → IsTextContent (content_of holding held)
-      by of_characters held h = h
-      by of_digits held h = h
-      by of_items held h = h
+      by : (sort : ItemSort) (held : List ℕ) → IsText held → IsTextContent (content_of sort held)
+      by Alphanumeric held h = h
+      by Numeric held h = h
+      by Group held h = h
   content_text (operands.Literal literal) t storage content h e = subst IsTextContent (some_same _ content e) t
   content_text (operands.Number n) t storage content h e = subst IsTextContent (some_same _ content e) t
   content_text (operands.Spaces position) t storage content h e = subst IsTextContent (some_same _ content e) tt
@@ -278,11 +274,11 @@ module _ (layout : Layout) (sound : IsSound layout) where
   pub combined_stored : (together : ℕ → ℕ → ℕ) (other : Addend) (target : Identifier) (storage after : Storage) → IsStorage layout.opening storage
       → combined together layout other target storage ≡ Some after → IsStorage layout.opening after
   combined_stored together other target storage after h e =
-      let a = bind_some (addend_number layout other storage) (λ n. item_at layout target storage >>= λ item. number_held item storage >>= λ m. Some (with_front item (in_digits (together m n) item.width) storage)) after e in
-      let b = bind_some (item_at layout target storage) (λ item. number_held item storage >>= λ m. Some (with_front item (in_digits (together m a.0) item.width) storage)) after a.2 in
-      let c = bind_some (number_held b.0 storage) (λ m. Some (with_front b.0 (in_digits (together m a.0) b.0.width) storage)) after b.2 in
+      let a = bind_some (addend_number layout other storage) (λ n. item_at layout target storage >>= λ item. number_held item storage >>= λ m. Some (with_prefix item (in_digits (together m n) item.length) storage)) after e in
+      let b = bind_some (item_at layout target storage) (λ item. number_held item storage >>= λ m. Some (with_prefix item (in_digits (together m a.0) item.length) storage)) after a.2 in
+      let c = bind_some (number_held b.0 storage) (λ m. Some (with_prefix b.0 (in_digits (together m a.0) b.0.length) storage)) after b.2 in
       let found = found_item layout sound target storage b.0 b.1 in
-      let filling = digits_filling (together c.0 a.0) b.0.width in
-      let out : Storage = with_front b.0 (in_digits (together c.0 a.0) b.0.width) storage in
+      let filling = digits_filling (together c.0 a.0) b.0.length in
+      let out : Storage = with_prefix b.0 (in_digits (together c.0 a.0) b.0.length) storage in
       subst (IsStorage layout.opening) {x = out} (some_same out after c.2)
-      (with_front_stored layout.opening storage b.0 (in_digits (together c.0 a.0) b.0.width) h found.placed filling.0 (omega (arith, filling.1)))
+      (with_prefix_stored layout.opening storage b.0 (in_digits (together c.0 a.0) b.0.length) h found.placed filling.0 (omega (arith, filling.1)))

@@ -1,50 +1,75 @@
 -- Programs, as they are written out.
-use Rattle.std.proofs.Common.{ℕ, ◌≤◌, false, List, [], ◌∷◌, length, take, map, Some, None, refl, arith, Vec, Global}
-use denote.RawPtr.{null_ptr}
-use mathlib.Core.Former.{Count, none_left, one_more}
-use Rattle.std.proofs.lemmas.List.{length-take}
+use Rattle.std.proofs.Common.{ℕ, false, Bool, List, [], ◌∷◌, Option, Some, None}
 use Rattle.cob_forms.specs.declared.written.Literal.{Literal}
 use Rattle.cob_forms.specs.declared.written.Name.{Name}
 use Rattle.cob_forms.specs.declared.written.Number.{Number}
 use Rattle.cob_forms.specs.declared.written.Position.{Position}
+use Rattle.cob_data.specs.declared.tree.ItemSort.{ItemSort}
+use Rattle.cob_data.specs.Layout.{Referent, data_at}
 use Rattle.cob_proc.specs.declared.tree.Addend.{Addend}
 use Rattle.cob_proc.specs.declared.tree.Addend.TheVariants as addends
 use Rattle.cob_proc.specs.declared.tree.Condition.{Condition}
+use Rattle.cob_proc.specs.declared.tree.Ending.{Ending}
 use Rattle.cob_proc.specs.declared.tree.Identifier.{Identifier}
 use Rattle.cob_proc.specs.declared.tree.Joint.{Joint}
 use Rattle.cob_proc.specs.declared.tree.Joint.TheVariants as joints
+use Rattle.cob_proc.specs.declared.tree.Key.{Key}
 use Rattle.cob_proc.specs.declared.tree.Operand.{Operand}
 use Rattle.cob_proc.specs.declared.tree.Operand.TheVariants as operands
-use Rattle.cob_proc.specs.declared.tree.Paragraph.{Paragraph}
 use Rattle.cob_proc.specs.declared.tree.Relation.{Relation}
 use Rattle.cob_proc.specs.declared.tree.Relation.TheVariants as relations
 use Rattle.cob_proc.specs.declared.tree.Repetition.{Repetition}
 use Rattle.cob_proc.specs.declared.tree.Simple.{Simple}
 use Rattle.cob_proc.specs.declared.tree.Simple.TheVariants as simples
-use Rattle.cob_proc.specs.declared.tree.Statement.{Statement, Move, Perform, Go, Row_of-Statement, end_of-Statement, more_of-Statement}
 use Rattle.cob_proc.specs.declared.tree.Subscript.TheVariants as subscripts
+use Rattle.cob_proc.specs.Trees.{moves, adds, subtracts, performs, goes, exits, stops, sends, switches_input, switches_output, accepts, Tree, plain, branches, receives, block_of, ParagraphTree}
 
--- A list in the memory that a program's lists have, of at most 100.
-pub heap : Global
-heap = record { memory = record { seal = tt } }
+-- an item at a place, and one that occurs in a table
+abbrev pub an_item : (area start length : ℕ) → ItemSort → Referent
+an_item area start length sort = data_at (record { area = area; start = start; length = length; sort = sort }) None
 
-pub short : {X : Type 0} (xs : List X) → length (take 100 xs) ≤ 100
-short xs = omega (arith, length-take 100 xs)
+abbrev pub a_table : (area start length : ℕ) → ItemSort → ℕ → Referent
+a_table area start length sort occurs = data_at (record { area = area; start = start; length = length; sort = sort }) (Some occurs)
 
-abbrev pub vec : {X : Type 0} → List X → Vec X Global
-vec xs = record { ptr = null_ptr; len = length (take 100 xs); cap = 100; alloc = heap; items = take 100 xs; ok = (refl, short xs); small = omega arith }
+-- the statements, one by one
+abbrev pub move_of : Operand → List Identifier → Tree
+move_of source targets = plain (moves source targets)
 
--- statements inside a statement
-abbrev pub counted : List Statement → Count
-counted [] = none_left
-counted (one ∷ others) = one_more (counted others)
+abbrev pub add_of : Addend → Identifier → Tree
+add_of addend target = plain (adds addend target)
 
-abbrev pub row : (all : List Statement) → Row_of-Statement (counted all)
-row [] = end_of-Statement
-row (one ∷ others) = more_of-Statement one (row others)
+abbrev pub subtract_of : Addend → Identifier → Tree
+subtract_of addend target = plain (subtracts addend target)
 
-abbrev pub shape : List Statement → Vec (Unit {0}) Global
-shape all = vec (map (λ one. tt) all)
+abbrev pub if_of : Position → Condition → List Tree → List Tree → Tree
+if_of position condition one other = branches position condition (block_of one) (block_of other)
+
+abbrev pub perform_of : Name → Option Name → Repetition → Tree
+perform_of first last often = plain (performs first last often)
+
+abbrev pub go_of : Name → Tree
+go_of target = plain (goes target)
+
+abbrev pub exit_of : Tree
+exit_of = plain exits
+
+abbrev pub stop_of : Tree
+stop_of = plain stops
+
+abbrev pub receive_of : Name → Bool → Identifier → List Tree → Tree
+receive_of cd segment into no_data = receives cd segment into (block_of no_data)
+
+abbrev pub send_of : Name → Option Identifier → Option Ending → Tree
+send_of cd from ending = plain (sends cd from ending)
+
+abbrev pub switch_input_of : (on terminal : Bool) → Name → Key → Tree
+switch_input_of on terminal cd key = plain (switches_input on terminal cd key)
+
+abbrev pub switch_output_of : Bool → Name → Key → Tree
+switch_output_of on cd key = plain (switches_output on cd key)
+
+abbrev pub accept_of : Name → Tree
+accept_of cd = plain (accepts cd)
 
 -- where words stand plays no part in what a program does
 abbrev pub here : Position
@@ -90,8 +115,8 @@ by_number text = addends.Number (digits text)
 abbrev pub by_item : List ℕ → Addend
 by_item text = addends.Item (item text)
 
-abbrev pub move_to : Operand → List Identifier → Statement
-move_to source targets = Move source targets
+abbrev pub move_to : Operand → List Identifier → Tree
+move_to source targets = move_of source targets
 
 abbrev pub compares : Operand → Relation → Operand → Simple
 compares left relation right = simples.Compares left false relation right
@@ -105,15 +130,15 @@ condition joint parts = record { joint = joint; parts = parts }
 abbrev pub alone : Simple → Condition
 alone part = condition joints.Alone (part ∷ [])
 
-abbrev pub perform : List ℕ → Repetition → Statement
-perform text often = Perform (name text) None often
+abbrev pub perform : List ℕ → Repetition → Tree
+perform text often = perform_of (name text) None often
 
-abbrev pub perform_thru : List ℕ → List ℕ → Repetition → Statement
-perform_thru first last often = Perform (name first) (Some (name last)) often
+abbrev pub perform_thru : List ℕ → List ℕ → Repetition → Tree
+perform_thru first last often = perform_of (name first) (Some (name last)) often
 
-abbrev pub go_to : List ℕ → Statement
-go_to text = Go (name text)
+abbrev pub go_to : List ℕ → Tree
+go_to text = go_of (name text)
 
 -- a paragraph of one sentence
-abbrev pub paragraph : List ℕ → List Statement → Paragraph
-paragraph text statements = record { name = name text; sentences = vec statements ∷ [] }
+abbrev pub paragraph : List ℕ → List Tree → ParagraphTree
+paragraph text statements = record { name = name text; sentences = block_of statements ∷ [] }

@@ -9,6 +9,7 @@ use Rattle.com_msg.specs.declared.sending.Advance.TheVariants.{Before, After, Be
 use Rattle.com_msg.specs.declared.sending.Part.{Part}
 use Rattle.com_msg.specs.declared.sending.Part.TheVariants as part
 use Rattle.com_msg.specs.Rendering.{IsAdvance}
+use Rattle.com_text.specs.Text.{IsText}
 use Rattle.com_cd.specs.InputArea.{IsInputArea}
 use Rattle.com_cd.specs.OutputArea.{IsOutputArea, occurrences_of}
 use Rattle.com_events.specs.Calls.{IsItem, IsKey, IsPart, IsWellFormed}
@@ -26,13 +27,15 @@ use Rattle.cob_proc.specs.declared.tree.Key.{Key}
 use Rattle.cob_proc.specs.declared.tree.Key.TheVariants as key
 use Rattle.cob_proc.specs.declared.tree.Lines.{Lines}
 use Rattle.cob_proc.specs.declared.tree.Lines.TheVariants as lines
-use Rattle.cob_meaning.specs.Layouts.{◌>>=◌, Item, Layout, Meant, an_item, an_input, an_output, area_meant, cd_of, meant}
+use Rattle.cob_data.specs.declared.tree.ItemPlace.{ItemPlace}
+use Rattle.cob_data.specs.Layout.{Referent, data_at, input_cd, output_cd}
+use Rattle.cob_meaning.specs.Layouts.{◌>>=◌, Layout, area_of, cd_of, referent}
 use Rattle.cob_meaning.specs.Moves.{addend_number, item_at}
-use Rattle.cob_meaning.specs.Names.{input_faults, input_faults_by, item_faults_by, key_faults, of_length, output_faults, output_faults_by, subscripted_faults, wants}
-use Rattle.cob_meaning.specs.Sound.{IsFit, IsSound, IsTextKey}
+use Rattle.cob_meaning.specs.Names.{data_faults_by, fault_unless, input_faults, input_faults_by, item_of_length, key_faults, output_faults, output_faults_by, subscripted_faults}
+use Rattle.cob_meaning.specs.Sound.{IsFit, IsSound}
 use Rattle.cob_meaning.specs.Storage.{Storage, area_in, held_by, with_area}
 use Rattle.cob_meaning.specs.Verbs.{Request, with_reply, accept, advance_by, advance_of, indicated, key_characters, part_by, part_of, part_with, receive, send, sent_text, some_lines, switch_input, switch_output}
-use Rattle.cob_meaning.proofs.Stored.{Found, IsStorage, bind_some, found_item, held_length, held_text, meant_is_sound, some_same, with_area_stored, with_front_stored}
+use Rattle.cob_meaning.proofs.Stored.{Found, IsStorage, bind_some, found_item, held_length, held_text, referent_is_sound, some_same, with_area_stored, with_prefix_stored}
 
 -- an input area of the storage, and an output area
 input_area : (opening : List (List ℕ)) (storage : Storage) (k : ℕ) → IsStorage opening storage → IsInputArea (area_in opening k) → IsInputArea (area_in storage k)
@@ -48,14 +51,14 @@ output_area opening storage k h is =
       text = (h k).0;
     }
 
-no_fault : {A : Type 0} (a : A) (others : List A) → a ∷ others ≡ [] → ⊥
+pub no_fault : {A : Type 0} (a : A) (others : List A) → a ∷ others ≡ [] → ⊥
 no_fault a others e = absurd cc
 
 pub both_empty : {A : Type 0} (xs ys : List A) → xs ++ ys ≡ [] → (xs ≡ []) × (ys ≡ [])
 both_empty [] ys e = (refl, e)
 both_empty (x ∷ xs) ys e = absurd (no_fault x (xs ++ ys) e)
 
-holds_where_wanted : (b : Bool) (position : Position) (k : _) → wants b position k ≡ [] → b ≡ true
+pub holds_where_wanted : (b : Bool) (position : Position) (k : _) → fault_unless b position k ≡ [] → b ≡ true
 holds_where_wanted true position k e = refl
 holds_where_wanted false position k e = absurd (no_fault _ _ e)
 
@@ -68,37 +71,42 @@ record Writes (layout : Layout) (storage : Storage) (area : ℕ) : Type 0 where
   is : IsOutputArea (area_in storage area)
   opens : IsOutputArea (area_in layout.opening area)
 
+-- a literal that is a key is a text
+abbrev pub IsTextKey : Key → Type 0
+IsTextKey (key.Literal literal) = IsText literal.characters
+IsTextKey (key.Item identifier) = Unit {0}
+
 module _ (layout : Layout) (sound : IsSound layout) (storage : Storage) (stored : IsStorage layout.opening storage) where
   reads : (cd : Name) (area : ℕ) → input_faults layout cd ≡ [] → cd_of layout cd ≡ Some area → Reads layout storage area
-  reads cd area right e = by (bind_some (meant layout cd) area_meant area e)
+  reads cd area right e = by (bind_some (referent layout cd) area_of area e)
     where
-      by_kind : (m : Meant) → meant layout cd ≡ Some m → area_meant m ≡ Some area → Reads layout storage area
-      by_kind (an_input k) f g =
+      by_kind : (r : Referent) → referent layout cd ≡ Some r → area_of r ≡ Some area → Reads layout storage area
+      by_kind (input_cd k) f g =
           let same = some_same k area g in
-          let opening = subst (λ i. IsInputArea (area_in layout.opening i)) same (meant_is_sound layout sound cd (an_input k) f) in
+          let opening = subst (λ i. IsInputArea (area_in layout.opening i)) same (referent_is_sound layout sound cd (input_cd k) f) in
           record { is = input_area layout.opening storage area stored opening; opens = opening }
-      by_kind (an_output k) f g = absurd (no_fault _ _ (sym (ap (λ m. input_faults_by m cd.position) f) ∙ right))
-      by_kind (an_item item) f g = absurd cc
+      by_kind (output_cd k occurrences) f g = absurd (no_fault _ _ (sym (ap (λ m. input_faults_by m cd.position) f) ∙ right))
+      by_kind (data_at place occurs) f g = absurd cc
 
-      by : ((m : Meant) × (meant layout cd ≡ Some m) × (area_meant m ≡ Some area)) → Reads layout storage area
+      by : ((r : Referent) × (referent layout cd ≡ Some r) × (area_of r ≡ Some area)) → Reads layout storage area
       by h = by_kind h.0 h.1 h.2
 
   writes : (cd : Name) (area : ℕ) → output_faults layout cd ≡ [] → cd_of layout cd ≡ Some area → Writes layout storage area
-  writes cd area right e = by (bind_some (meant layout cd) area_meant area e)
+  writes cd area right e = by (bind_some (referent layout cd) area_of area e)
     where
-      by_kind : (m : Meant) → meant layout cd ≡ Some m → area_meant m ≡ Some area → Writes layout storage area
-      by_kind (an_output k) f g =
+      by_kind : (r : Referent) → referent layout cd ≡ Some r → area_of r ≡ Some area → Writes layout storage area
+      by_kind (output_cd k occurrences) f g =
           let same = some_same k area g in
-          let opening = subst (λ i. IsOutputArea (area_in layout.opening i)) same (meant_is_sound layout sound cd (an_output k) f) in
+          let opening = subst (λ i. IsOutputArea (area_in layout.opening i)) same (referent_is_sound layout sound cd (output_cd k occurrences) f) in
           record { is = output_area layout.opening storage area stored opening; opens = opening }
-      by_kind (an_input k) f g = absurd (no_fault _ _ (sym (ap (λ m. output_faults_by m cd.position) f) ∙ right))
-      by_kind (an_item item) f g = absurd cc
+      by_kind (input_cd k) f g = absurd (no_fault _ _ (sym (ap (λ m. output_faults_by m cd.position) f) ∙ right))
+      by_kind (data_at place occurs) f g = absurd cc
 
-      by : ((m : Meant) × (meant layout cd ≡ Some m) × (area_meant m ≡ Some area)) → Writes layout storage area
+      by : ((r : Referent) × (referent layout cd ≡ Some r) × (area_of r ≡ Some area)) → Writes layout storage area
       by h = by_kind h.0 h.1 h.2
 
   -- what an item that is sent holds
-  sent_item : (identifier : Identifier) (item : Item) → item_at layout identifier storage ≡ Some item → IsItem (held_by item storage)
+  sent_item : (identifier : Identifier) (item : ItemPlace) → item_at layout identifier storage ≡ Some item → IsItem (held_by item storage)
   sent_item identifier item e =
       let found = found_item layout sound identifier storage item e in
       let n = held_length layout.opening storage item stored found.placed in
@@ -110,11 +118,11 @@ module _ (layout : Layout) (sound : IsSound layout) (storage : Storage) (stored 
   key_well (key.Item identifier) characters text right e =
       let a = bind_some (item_at layout identifier storage) (λ item. Some (held_by item storage)) characters e in
       let found = found_item layout sound identifier storage a.0 a.1 in
-      let faults = sym (ap (λ m. item_faults_by m identifier.name.position (λ item. of_length 1 10 identifier.name.position item ++ subscripted_faults layout identifier.name.position item.occurs identifier.subscript)) found.meaning) ∙ right in
-      let fits = and_parts (nat_le 1 found.base.width) (nat_le found.base.width 10) (holds_where_wanted (nat_le 1 found.base.width && nat_le found.base.width 10) _ _ (both_empty _ _ faults).0) in
-      let few : found.base.width ≤ 10 = grind (arith, nat_tests) in
+      let faults = sym (ap (λ m. data_faults_by m identifier.name.position (λ item occurs. item_of_length 1 10 identifier.name.position item ++ subscripted_faults layout identifier.name.position occurs identifier.subscript)) found.stands_for) ∙ right in
+      let fits = and_parts (nat_le 1 found.base.length) (nat_le found.base.length 10) (holds_where_wanted (nat_le 1 found.base.length && nat_le found.base.length 10) _ _ (both_empty _ _ faults).0) in
+      let few : found.base.length ≤ 10 = grind (arith, nat_tests) in
       subst IsKey (some_same _ characters a.2)
-      (held_text layout.opening storage a.0 stored, omega (arith, held_length layout.opening storage a.0 stored found.placed, found.width))
+      (held_text layout.opening storage a.0 stored, omega (arith, held_length layout.opening storage a.0 stored found.placed, found.size))
   key_well (key.Literal literal) characters text right e =
       let fits = and_parts (nat_le 1 (length literal.characters)) (nat_le (length literal.characters) 10) (holds_where_wanted (nat_le 1 (length literal.characters) && nat_le (length literal.characters) 10) _ _ right) in
       let few : length literal.characters ≤ 10 = grind (arith, nat_tests) in
@@ -201,13 +209,13 @@ module _ (layout : Layout) (sound : IsSound layout) (storage : Storage) (stored 
       → receive layout cd segment into no_data storage ≡ Some asked → IsSane asked
   receive_sane cd segment into no_data asked right e = subst IsSane (some_same _ asked b.2) (record { well = (r.is, found.placed.some, found.placed.few); takes = takes })
     where
-      request : ℕ → Item → Request
-      request area item = record { call = call.Receive (area_in storage area) (if segment then kind.Segment else kind.Message) item.width no_data; area = area; into = Some item }
+      request : ℕ → ItemPlace → Request
+      request area item = record { call = call.Receive (area_in storage area) (if segment then kind.Segment else kind.Message) item.length no_data; area = area; into = Some item }
 
       a : (area : ℕ) × (cd_of layout cd ≡ Some area) × ((item_at layout into storage >>= λ item. Some (request area item)) ≡ Some asked)
       a = bind_some (cd_of layout cd) (λ area. item_at layout into storage >>= λ item. Some (request area item)) asked e
 
-      b : (item : Item) × (item_at layout into storage ≡ Some item) × (Some (request a.0 item) ≡ Some asked)
+      b : (item : ItemPlace) × (item_at layout into storage ≡ Some item) × (Some (request a.0 item) ≡ Some asked)
       b = bind_some (item_at layout into storage) (λ item. Some (request a.0 item)) asked a.2
 
       r : Reads layout storage a.0
@@ -218,7 +226,7 @@ module _ (layout : Layout) (sound : IsSound layout) (storage : Storage) (stored 
 
       takes : (reply : Reply) → IsFit (request a.0 b.0).call reply → IsStorage layout.opening (with_reply (request a.0 b.0) reply storage)
       takes (Started names) fit = absurd fit
-      takes (Given after text) fit = with_front_stored layout.opening (with_area a.0 after storage) b.0 text (keeps_input a.0 after r fit.0) found.placed fit.1 fit.2
+      takes (Given after text) fit = with_prefix_stored layout.opening (with_area a.0 after storage) b.0 text (keeps_input a.0 after r fit.0) found.placed fit.1 fit.2
       takes (NoData after) fit = keeps_input a.0 after r fit
       takes (Refused after) fit = keeps_input a.0 after r fit
       takes Waits fit = absurd fit

@@ -8,18 +8,23 @@ use Rattle.com_events.specs.declared.call.Call.{Call}
 use Rattle.com_events.specs.declared.reply.Reply.{Reply}
 use Rattle.cob_lex.specs.declared.fault.SourceFault.{SourceFault}
 use Rattle.cob_forms.specs.Faults.{earlier, first, is_before}
-use Rattle.cob_proc.specs.declared.tree.Paragraph.{Paragraph}
-use Rattle.cob_proc.specs.declared.tree.Statement.{Statement, Move, Add, Subtract, If', Perform, Go, Exit, Stop, Receive', Send, SwitchInput, SwitchOutput, Accept, Row_of-Statement, end_of-Statement, more_of-Statement}
+use Rattle.com_text.proofs.Texts.{IsText-digits}
+use Rattle.cob_proc.specs.declared.tree.Key.{Key}
+use Rattle.cob_proc.specs.declared.tree.Key.TheVariants as keys
+use Rattle.cob_proc.specs.declared.tree.Operand.{Operand}
+use Rattle.cob_proc.specs.declared.tree.Operand.TheVariants as operands
+use Rattle.cob_proc.specs.Trees.{Plain, moves, adds, subtracts, performs, goes, exits, stops, sends, switches_input, switches_output, accepts, Tree, plain, branches, receives, Block, none, lead, ParagraphTree}
+use Rattle.cob_meaning.specs.Checked.{AreChecked, AreCheckedParagraphs, IsCheckedKey, IsCheckedOperand, IsCheckedPlain, IsCheckedStatement, IsCheckedText}
 use Rattle.cob_meaning.specs.Layouts.{Layout}
-use Rattle.cob_meaning.specs.Meaning.{Run, Outcome, Normal, Jump, Stops, Needs, Limits, Program, are_written, beginning, meaning_of, meaning_within, named, statements_of}
+use Rattle.cob_meaning.specs.Meaning.{Run, Outcome, Normal, Jump, Stops, Needs, Limits, Program, are_written, beginning, meaning_of, meaning_within, with_names}
 use Rattle.cob_meaning.specs.Moves.{add, move, subtract}
-use Rattle.cob_meaning.specs.Names.{all_faults, anything, condition_faults, ending_faults, identifier_faults, input_faults, names_faults, output_faults, some_identifier_faults, statement_faults}
-use Rattle.cob_meaning.specs.Sound.{AllHaveTexts, AreFit, AreTexts, AreWellFormed, HasTexts, IsFit, IsSound}
+use Rattle.cob_meaning.specs.Names.{all_faults, any_item, condition_faults, ending_faults, identifier_faults, input_faults, names_faults, output_faults, plain_faults, sentences_faults, some_identifier_faults, statement_faults}
+use Rattle.cob_meaning.specs.Sound.{AreFit, AreWellFormed, IsFit, IsSound}
 use Rattle.cob_meaning.specs.Storage.{Storage, area_in}
 use Rattle.cob_meaning.specs.Verbs.{Request, accept, receive, send, switch_input, switch_output}
-use Rattle.cob_meaning.proofs.Lasting.{AllKept, AreKept, Asks, Facts, Fine, IsTextKept, Keeps, Kept, range_lasts}
-use Rattle.cob_meaning.proofs.Stored.{IsStorage, combined_stored, move_stored, opens, with_area_stored}
-use Rattle.cob_meaning.proofs.WellFormed.{IsSane, accept_sane, both_empty, receive_sane, send_sane, switch_input_sane, switch_output_sane}
+use Rattle.cob_meaning.proofs.Lasting.{AllKept, AreKept, Asks, Facts, Fine, IsTextKept, Keeps, Kept, PlainKept, range_lasts}
+use Rattle.cob_meaning.proofs.Stored.{IsStorage, IsTextOperand, combined_stored, move_stored, opens, with_area_stored}
+use Rattle.cob_meaning.proofs.WellFormed.{IsSane, IsTextKey, accept_sane, both_empty, receive_sane, send_sane, switch_input_sane, switch_output_sane}
 
 -- the replies to some calls fit, and so does the next
 fit_last : (calls : List Call) (call : Call) (reply : Reply) (all rest : List Reply) → drop (length calls) all ≡ reply ∷ rest → AreFit (calls ++ call ∷ []) all → AreFit calls all × IsFit call reply
@@ -56,7 +61,18 @@ no_faults (x ∷ faults) e = absurd (by (first faults) e)
     by None e = absurd cc
     by (Some y) e = pick (is_before y x) y e
 
-module _ (layout : Layout) (sound : IsSound layout) (text : List Paragraph) (all : List Reply) where
+text_operand : (layout : Layout) (o : Operand) → IsCheckedOperand layout o → IsTextOperand o
+text_operand layout (operands.Item identifier) h = tt
+text_operand layout (operands.Literal literal) h = h.text
+text_operand layout (operands.Number n) h = IsText-digits n.digits h.are_digits
+text_operand layout (operands.Spaces position) h = tt
+text_operand layout (operands.Zeros position) h = tt
+
+text_key : (layout : Layout) (k : Key) → IsCheckedKey layout k → IsTextKey k
+text_key layout (keys.Item identifier) h = tt
+text_key layout (keys.Literal literal) h = h.0.text
+
+module _ (layout : Layout) (sound : IsSound layout) (text : List ParagraphTree) (all : List Reply) where
   -- where the replies fit the calls so far, storage is sound and the calls are well formed
   record Held (run : Run) : Type 0 where
     rest : run.replies ≡ drop (length run.calls) all
@@ -92,52 +108,55 @@ module _ (layout : Layout) (sound : IsSound layout) (text : List Paragraph) (all
     stops = λ run verbs h e. h.calls;
   }
 
+  plain_kept : (s : Plain) → IsCheckedPlain layout text s → plain_faults layout text s ≡ [] → PlainKept facts layout text s
+  plain_kept (moves source targets) t e = keeps (move layout source targets) (λ storage after h f. move_stored layout sound source (text_operand layout source t.0) targets storage after h f)
+  plain_kept (adds addend target) t e = keeps (add layout addend target) (λ storage after h f. combined_stored layout sound (λ m n. m + n) addend target storage after h f)
+  plain_kept (subtracts addend target) t e = keeps (subtract layout addend target) (λ storage after h f. combined_stored layout sound (λ m n. (m - n) + (n - m)) addend target storage after h f)
+  plain_kept (performs begin last often) t e = tt
+  plain_kept (goes target) t e = tt
+  plain_kept exits t e = tt
+  plain_kept stops t e = tt
+  plain_kept (sends cd from ending) t e =
+      let parts = both_empty (output_faults layout cd ++ some_identifier_faults layout from) (ending_faults layout ending) e in
+      let right = (both_empty (output_faults layout cd) (some_identifier_faults layout from) parts.0).0 in
+      asks (send layout cd from ending) (λ storage stored asked f. send_sane layout sound storage stored cd from ending asked right f)
+  plain_kept (switches_input on terminal cd key) t e =
+      let parts = both_empty _ _ e in
+      asks (switch_input layout on terminal cd key) (λ storage stored asked f. switch_input_sane layout sound storage stored on terminal cd key asked parts.0 (text_key layout key t.1) parts.1 f)
+  plain_kept (switches_output on cd key) t e =
+      let parts = both_empty _ _ e in
+      asks (switch_output layout on cd key) (λ storage stored asked f. switch_output_sane layout sound storage stored on cd key asked parts.0 (text_key layout key t.1) parts.1 f)
+  plain_kept (accepts cd) t e = asks (accept layout cd) (λ storage stored asked f. accept_sane layout sound storage stored cd asked e f)
+
   mutual
-    kept : (s : Statement) → HasTexts s → statement_faults layout text s ≡ [] → Kept facts layout text s
-    kept (Move source targets) t e = keeps (move layout source targets) (λ storage after h f. move_stored layout sound source t targets storage after h f)
-    kept (Add addend target) t e = keeps (add layout addend target) (λ storage after h f. combined_stored layout sound (λ m n. m + n) addend target storage after h f)
-    kept (Subtract addend target) t e = keeps (subtract layout addend target) (λ storage after h f. combined_stored layout sound (λ m n. (m - n) + (n - m)) addend target storage after h f)
-    kept (If' position condition _ one _ other) t e =
+    kept : (s : Tree) → IsCheckedStatement layout text s → statement_faults layout text s ≡ [] → Kept facts layout text s
+    kept (plain statement) t e = plain_kept statement t e
+    kept (branches position condition one other) t e =
         let parts = both_empty (condition_faults layout condition ++ all_faults layout text one) (all_faults layout text other) e in
-        (all_kept one t.0 (both_empty (condition_faults layout condition) (all_faults layout text one) parts.0).1, all_kept other t.1 parts.1)
-    kept (Perform begin last often) t e = tt
-    kept (Go target) t e = tt
-    kept Exit t e = tt
-    kept Stop t e = tt
-    kept (Receive' cd segment into _ no_data) t e =
-        let parts = both_empty (input_faults layout cd ++ identifier_faults layout anything into) (all_faults layout text no_data) e in
-        let right = (both_empty (input_faults layout cd) (identifier_faults layout anything into) parts.0).0 in (
+        (all_kept one t.1 (both_empty (condition_faults layout condition) (all_faults layout text one) parts.0).1, all_kept other t.2 parts.1)
+    kept (receives cd segment into no_data) t e =
+        let parts = both_empty (input_faults layout cd ++ identifier_faults layout any_item into) (all_faults layout text no_data) e in
+        let right = (both_empty (input_faults layout cd) (identifier_faults layout any_item into) parts.0).0 in (
           asks (receive layout cd segment into (are_written no_data)) (λ storage stored asked f. receive_sane layout sound storage stored cd segment into (are_written no_data) asked right f),
-          all_kept no_data t parts.1,
+          all_kept no_data t.2 parts.1,
         )
-    kept (Send cd from ending) t e =
-        let parts = both_empty (output_faults layout cd ++ some_identifier_faults layout from) (ending_faults layout ending) e in
-        let right = (both_empty (output_faults layout cd) (some_identifier_faults layout from) parts.0).0 in
-        asks (send layout cd from ending) (λ storage stored asked f. send_sane layout sound storage stored cd from ending asked right f)
-    kept (SwitchInput on terminal cd key) t e =
-        let parts = both_empty _ _ e in
-        asks (switch_input layout on terminal cd key) (λ storage stored asked f. switch_input_sane layout sound storage stored on terminal cd key asked parts.0 t parts.1 f)
-    kept (SwitchOutput on cd key) t e =
-        let parts = both_empty _ _ e in
-        asks (switch_output layout on cd key) (λ storage stored asked f. switch_output_sane layout sound storage stored on cd key asked parts.0 t parts.1 f)
-    kept (Accept cd) t e = asks (accept layout cd) (λ storage stored asked f. accept_sane layout sound storage stored cd asked e f)
 
-    all_kept : {m : _} (row : Row_of-Statement m) → AllHaveTexts row → all_faults layout text row ≡ [] → AllKept facts layout text row
-    all_kept end_of-Statement t e = tt
-    all_kept (more_of-Statement one others) t e = let parts = both_empty _ _ e in (kept one t.0 parts.0, all_kept others t.1 parts.1)
+    all_kept : (block : Block) → AreChecked layout text block → all_faults layout text block ≡ [] → AllKept facts layout text block
+    all_kept none t e = tt
+    all_kept (lead one others) t e = let parts = both_empty _ _ e in (kept one t.0 parts.0, all_kept others t.1 parts.1)
 
-  are_kept : (statements : List Statement) → AllByRecursion HasTexts statements → flat_map (statement_faults layout text) statements ≡ [] → AreKept facts layout text statements
+  are_kept : (blocks : List Block) → AllByRecursion (AreChecked layout text) blocks → flat_map (all_faults layout text) blocks ≡ [] → AreKept facts layout text blocks
   are_kept [] t e = tt
-  are_kept (one ∷ others) t e = let parts = both_empty _ _ e in (kept one t.0 parts.0, are_kept others t.1 parts.1)
+  are_kept (one ∷ others) t e = let parts = both_empty _ _ e in (all_kept one t.0 parts.0, are_kept others t.1 parts.1)
 
-  is_kept : (ps : List Paragraph) → AreTexts ps → flat_map (λ paragraph. flat_map (statement_faults layout text) (statements_of paragraph)) ps ≡ [] → IsTextKept facts layout text ps
+  is_kept : (ps : List ParagraphTree) → AreCheckedParagraphs layout text ps → flat_map (sentences_faults layout text) ps ≡ [] → IsTextKept facts layout text ps
   is_kept [] t e = tt
-  is_kept (p ∷ ps) t e = let parts = both_empty _ _ e in (are_kept (statements_of p) t.0 parts.0, is_kept ps t.1 parts.1)
+  is_kept (p ∷ ps) t e = let parts = both_empty _ _ e in (are_kept p.sentences t.0 parts.0, is_kept ps t.1 parts.1)
 
-named_stored : (layout : Layout) → IsSound layout → (names : Option (List ℕ)) → IfSome names AreNames → IsStorage layout.opening (named layout.initial names layout.opening)
+named_stored : (layout : Layout) → IsSound layout → (names : Option (List ℕ)) → IfSome names AreNames → IsStorage layout.opening (with_names layout.initial names layout.opening)
 named_stored layout sound names are = by layout.initial names sound.initial are
   where
-    by : (initial : Option ℕ) (names : Option (List ℕ)) → IfSome initial (λ area. 48 ≤ length (area_in layout.opening area)) → IfSome names AreNames → IsStorage layout.opening (named initial names layout.opening)
+    by : (initial : Option ℕ) (names : Option (List ℕ)) → IfSome initial (λ area. 48 ≤ length (area_in layout.opening area)) → IfSome names AreNames → IsStorage layout.opening (with_names initial names layout.opening)
     by (Some area) (Some names) long are =
         with_area_stored layout.opening layout.opening area _ (opens layout.opening sound.texts)
         (IsText-with_part 0 (length names) (area_in layout.opening area) names (opens layout.opening sound.texts area).0 are.0)
@@ -152,7 +171,7 @@ module _ (limits : Limits) (program : Program) (names : Option (List ℕ)) (repl
   outcome (Stops reason run) h fit = record { answered = h fit; wanted = tt }
   outcome (Needs call run) h fit = let both = h fit in record { answered = both.0; wanted = both.1 }
 
-  pub calls_well : AreTexts program.text → first (names_faults program) ≡ None → IfSome names AreNames
+  pub calls_well : IsCheckedText program.layout program.text → first (names_faults program) ≡ None → IfSome names AreNames
       → AreFit (meaning_within limits program names replies).calls replies → AreWellFormed (meaning_within limits program names replies)
   calls_well texts right are fit =
       let lasts = range_lasts (facts program.layout sound program.text replies) program.layout program.text (limits.statements + 1)

@@ -4,9 +4,9 @@ use Rattle.cob_proc.specs.declared.tree.Condition.{Condition}
 use Rattle.cob_proc.specs.declared.tree.Joint.TheVariants as joints
 use Rattle.cob_proc.specs.declared.tree.Relation.TheVariants as relations
 use Rattle.cob_proc.specs.declared.tree.Simple.TheVariants as simples
-use Rattle.cob_proc.specs.declared.tree.Statement.{Statement, Add, Subtract, If'}
+use Rattle.cob_proc.specs.Trees.{Tree}
 use Rattle.cob_meaning.specs.Meaning.{Meaning, unit_limits}
-use Rattle.cob_meaning.proofs.Trees.{row, shape, here, item, of_item, literal, a_numeral, spaces_word, zeros_word, by_number, by_item, move_to, compares, equals, condition, alone}
+use Rattle.cob_meaning.proofs.Trees.{here, item, of_item, literal, a_numeral, spaces_word, zeros_word, by_number, by_item, move_to, compares, equals, condition, alone, add_of, if_of, subtract_of}
 use Rattle.cob_meaning.proofs.SmallPrograms.{shows, sent, data_fault, does, then_shows}
 
 -- a shorter text is filled with spaces
@@ -160,36 +160,36 @@ unfolding unit_limits
 move_to_two_kinds = refl
 
 -- a sum that is too wide keeps its low-order digits
-add_carries : then_shows (Add (by_number (codes "999")) (item (codes "M")) ∷ []) (codes "M") ≡ sent (codes "041")
+add_carries : then_shows (add_of (by_number (codes "999")) (item (codes "M")) ∷ []) (codes "M") ≡ sent (codes "041")
 unfolding unit_limits
 add_carries = refl
 
 -- an item is added to itself
-add_item : then_shows (Add (by_item (codes "M")) (item (codes "M")) ∷ []) (codes "M") ≡ sent (codes "084")
+add_item : then_shows (add_of (by_item (codes "M")) (item (codes "M")) ∷ []) (codes "M") ≡ sent (codes "084")
 unfolding unit_limits
 add_item = refl
 
 -- a letter is not added
-add_letters : does (codes "ABC") (codes "0A2") (codes "XY12") (Add (by_number (codes "1")) (item (codes "M")) ∷ []) ≡ data_fault
+add_letters : does (codes "ABC") (codes "0A2") (codes "XY12") (add_of (by_number (codes "1")) (item (codes "M")) ∷ []) ≡ data_fault
 unfolding unit_limits
 add_letters = refl
 
 -- a difference below zero has no sign
-subtract_below : then_shows (Subtract (by_number (codes "50")) (item (codes "M")) ∷ []) (codes "M") ≡ sent (codes "008")
+subtract_below : then_shows (subtract_of (by_number (codes "50")) (item (codes "M")) ∷ []) (codes "M") ≡ sent (codes "008")
 unfolding unit_limits
 subtract_below = refl
 
-abbrev yes : Statement
+abbrev yes : Tree
 yes = move_to (literal (codes "YES")) (item (codes "A") ∷ [])
 
-abbrev no : Statement
+abbrev no : Tree
 no = move_to (literal (codes "NO")) (item (codes "A") ∷ [])
 
 -- IF this holds, A becomes YES, else NO; and A is shown
 abbrev asks : List ℕ → List ℕ → Condition → Meaning
 asks a m test =
     does a m (codes "XY12")
-    (If' here test (shape (yes ∷ [])) (row (yes ∷ [])) (shape (no ∷ [])) (row (no ∷ [])) ∷ shows (codes "A") ∷ [])
+    (if_of here test ((yes ∷ [])) ((no ∷ [])) ∷ shows (codes "A") ∷ [])
 
 -- numbers are equal whatever their lengths
 equal_numbers : asks (codes "ABC") (codes "042") (alone (equals (of_item (codes "M")) (a_numeral (codes "42")))) ≡ sent (codes "YES")

@@ -11,20 +11,20 @@ use Rattle.cob_forms.specs.Readers.{turns}
 use Rattle.cob_data.specs.declared.tree.DataDivision.{DataDivision}
 use Rattle.cob_data.specs.Clauses.{input_field_of, output_field_of}
 use Rattle.cob_data.specs.Divisions.{IsDivisionOf, communication_of, working_storage_of}
-use Rattle.cob_proc.specs.declared.tree.Paragraph.{Paragraph}
-use Rattle.cob_proc.specs.declared.tree.Statement.{Statement, Move, Go, Stop}
 use Rattle.cob_proc.specs.PartReaders as parts
 use Rattle.cob_proc.specs.StatementReaders as statement
 use Rattle.cob_proc.specs.DivisionReaders as division
 use Rattle.cob_proc.specs.Spelled.{IsProcedure}
-use Rattle.cob_proc.specs.Trees.{paragraph_tree}
+use Rattle.cob_proc.specs.Trees.{Tree, ParagraphTree}
 use Rattle.cob_proc.proofs.DivisionSpelled.{procedure_spelled}
 use Rattle.cob_proc.proofs.WorkedSources.{tokens_in}
-use Rattle.cob_meaning.specs.Layouts.{an_item, of_characters}
+use Rattle.cob_data.specs.declared.tree.ItemSort.TheVariants.{Characters as Alphanumeric, Digits as Numeric, Group}
+use Rattle.cob_data.specs.Layout.{Referent, input_cd, output_cd}
 use Rattle.cob_meaning.specs.Meaning.{Program}
-use Rattle.cob_meaning.specs.Sources.{IsProgramOf, IsSourceFaultOf, Spells}
+use Rattle.cob_meaning.specs.Sources.{IsProgramOf, IsSourceFaultOf, Spells, of_text, of_trees}
+use Rattle.cob_meaning.proofs.RangeFaults.{free_of_faults}
+use Rattle.cob_meaning.proofs.Trees.{go_of, move_of, stop_of, an_item}
 use Rattle.cob_meaning.proofs.Placed.{name_at, item_at, of_item, paragraph_at}
-use Rattle.cob_meaning.proofs.SameTrees.{same_paragraphs, written_paragraph}
 
 -- an item MAIN, and a paragraph MAIN with two sentences, in lines 8 and 9
 abbrev with_sentences : List ℕ → List ℕ → List ℕ
@@ -47,10 +47,10 @@ abbrev tokens_from : List ℕ → List Token
 tokens_from source = tokens_in (tokens_of source)
 
 -- the program with these statements in its two sentences
-abbrev program_of : Statement → Statement → Program
+abbrev program_of : Tree → Tree → Program
 program_of one other = record {
   layout = record {
-    names = (codes "MAIN", an_item (record { area = 0; start = 0; width = 1; holding = of_characters; occurs = None })) ∷ [];
+    names = (codes "MAIN", an_item 0 0 1 Alphanumeric) ∷ [];
     opening = codes " " ∷ [];
     initial = None;
   };
@@ -58,10 +58,10 @@ program_of one other = record {
 }
 
 abbrev both_program : Program
-both_program = program_of (Move (of_item 8 17 (codes "MAIN")) (item_at 8 25 (codes "MAIN") ∷ [])) (Go (name_at 9 18 (codes "MAIN")))
+both_program = program_of (move_of (of_item 8 17 (codes "MAIN")) (item_at 8 25 (codes "MAIN") ∷ [])) (go_of (name_at 9 18 (codes "MAIN")))
 
 abbrev unknown_program : Program
-unknown_program = program_of (Move (of_item 8 17 (codes "MAIN")) (item_at 8 25 (codes "Z") ∷ [])) Stop
+unknown_program = program_of (move_of (of_item 8 17 (codes "MAIN")) (item_at 8 25 (codes "Z") ∷ [])) stop_of
 
 -- what these tokens tell before the word PROCEDURE
 abbrev told : List Token → DataDivision
@@ -73,15 +73,11 @@ told ts = record {
   communication = communication_of (take 18 ts);
 }
 
--- what is read is spelled so
-spelled : (text : List Paragraph) (ts : List Token) → division.read_procedure ts ≡ Ok (map written_paragraph text) → IsProcedure (map paragraph_tree text) ts
-spelled text ts read = subst (λ trees. IsProcedure trees ts) (sym (same_paragraphs text)) (procedure_spelled ts _ read)
-
-both_is_read : division.read_procedure (drop 18 (tokens_from both)) ≡ Ok (map written_paragraph both_program.text)
+both_is_read : division.read_procedure (drop 18 (tokens_from both)) ≡ Ok both_program.text
 unfolding lines_tokens text_tokens front_of turns parts.subscript_value parts.subscript parts.identifier parts.identifiers parts.constant parts.operand statement.read_move statement.read_go statement.read_stop statement.read_plain division.read_statement division.read_statements division.read_sentence division.read_sentences division.read_paragraph division.read_paragraphs division.read_division
 both_is_read = refl
 
-unknown_is_read : division.read_procedure (drop 18 (tokens_from unknown)) ≡ Ok (map written_paragraph unknown_program.text)
+unknown_is_read : division.read_procedure (drop 18 (tokens_from unknown)) ≡ Ok unknown_program.text
 unfolding lines_tokens text_tokens front_of turns parts.subscript_value parts.subscript parts.identifier parts.identifiers parts.constant parts.operand statement.read_move statement.read_go statement.read_stop statement.read_plain division.read_statement division.read_statements division.read_sentence division.read_sentences division.read_paragraph division.read_paragraphs division.read_division
 unknown_is_read = refl
 
@@ -116,7 +112,7 @@ both_is_spelled = record {
   place = 18;
   division = told (tokens_from both);
   is_division = both_is_divided;
-  is_procedure = spelled both_program.text _ both_is_read;
+  is_procedure = procedure_spelled _ _ both_is_read;
   layout = refl;
 }
 
@@ -127,26 +123,26 @@ unknown_is_spelled = record {
   place = 18;
   division = told (tokens_from unknown);
   is_division = unknown_is_divided;
-  is_procedure = spelled unknown_program.text _ unknown_is_read;
+  is_procedure = procedure_spelled _ _ unknown_is_read;
   layout = refl;
 }
 
 -- an item and a paragraph may have one name
 both_is_program : IsProgramOf both both_program
 unfolding lines_tokens text_tokens front_of
-both_is_program = record { tokens = tokens_from both; are_tokens = refl; spells = both_is_spelled; no_fault = refl }
+both_is_program = record { few = omega arith; tokens = tokens_from both; are_tokens = refl; spells = both_is_spelled; no_fault = free_of_faults both_program refl refl }
 
 -- a name that stands for nothing
 unknown_name : IsSourceFaultOf unknown (fault 8 25 faults.UnknownName)
 unfolding lines_tokens text_tokens front_of
-unknown_name = inr (record { tokens = tokens_from unknown; program = unknown_program; are_tokens = refl; spells = unknown_is_spelled; is_found = refl })
+unknown_name = of_trees (tokens_from unknown) unknown_program (omega arith) refl unknown_is_spelled (inl refl)
 
 -- the procedure pass is the earlier one: what it finds in line 9 is told, and not the name in line 8
 wanted_before_unknown : IsSourceFaultOf (with_sentences (codes "           MOVE MAIN TO Z.") (codes "           STOP.")) (fault 9 16 faults.WantedWord)
 unfolding lines_tokens text_tokens front_of next reading
-wanted_before_unknown = inl refl
+wanted_before_unknown = of_text (omega arith) refl
 
 -- so is a comparison without an identifier
 constants_before_unknown : IsSourceFaultOf (with_sentences (codes "           MOVE MAIN TO Z.") (codes "           IF 1 = 2 STOP RUN.")) (fault 9 15 faults.WrongKind)
 unfolding lines_tokens text_tokens front_of next reading
-constants_before_unknown = inl refl
+constants_before_unknown = of_text (omega arith) refl

@@ -15,14 +15,15 @@ use Rattle.cob_proc.specs.declared.tree.Indicator.TheVariants as indicators
 use Rattle.cob_proc.specs.declared.tree.Lines.TheVariants as lines
 use Rattle.cob_proc.specs.declared.tree.Repetition.TheVariants as repetitions
 use Rattle.cob_proc.specs.declared.tree.Simple.TheVariants as simples
-use Rattle.cob_proc.specs.declared.tree.Statement.{Statement, Move, Add, If', Perform, Go, Exit, Stop, Receive', Send}
 use Rattle.cob_proc.specs.declared.tree.Addend.TheVariants as addends
 use Rattle.cob_proc.specs.declared.tree.Operand.TheVariants as operands
 use Rattle.cob_proc.specs.declared.tree.Relation.TheVariants as relations
-use Rattle.cob_meaning.specs.Layouts.{an_item, an_input, an_output, of_characters, of_digits, of_items}
+use Rattle.cob_proc.specs.Trees.{Tree}
+use Rattle.cob_data.specs.declared.tree.ItemSort.TheVariants.{Characters as Alphanumeric, Digits as Numeric, Group}
+use Rattle.cob_data.specs.Layout.{Referent, input_cd, output_cd}
 use Rattle.cob_meaning.specs.Meaning.{Stopped, Wants, Program, meaning, unit_limits}
 use Rattle.cob_meaning.proofs.Placed.{at, name_at, item_at, digits_at, of_item, of_literal, of_number, paragraph_at}
-use Rattle.cob_meaning.proofs.Trees.{alone, row, shape}
+use Rattle.cob_meaning.proofs.Trees.{alone, add_of, exit_of, go_of, if_of, move_of, perform_of, receive_of, send_of, stop_of, an_item}
 
 -- the area of an input CD: the name of the queue, the moment, the source, the length and the end key
 abbrev pub in_area : List ℕ → List ℕ → List ℕ → List ℕ → List ℕ → List ℕ
@@ -40,28 +41,28 @@ abbrev pub echo : Program
 echo = record {
   layout = record {
     names =
-        (codes "BUF", an_item (record { area = 0; start = 0; width = 20; holding = of_characters; occurs = None }))
-        ∷ (codes "INQ", an_input 1)
-        ∷ (codes "IN-NAME", an_item (record { area = 1; start = 0; width = 12; holding = of_characters; occurs = None }))
-        ∷ (codes "IN-FROM", an_item (record { area = 1; start = 62; width = 12; holding = of_characters; occurs = None }))
-        ∷ (codes "IN-LEN", an_item (record { area = 1; start = 74; width = 4; holding = of_digits; occurs = None }))
-        ∷ (codes "OUTQ", an_output 2)
-        ∷ (codes "OUT-COUNT", an_item (record { area = 2; start = 0; width = 4; holding = of_digits; occurs = None }))
-        ∷ (codes "OUT-LEN", an_item (record { area = 2; start = 4; width = 4; holding = of_digits; occurs = None }))
-        ∷ (codes "OUT-TO", an_item (record { area = 2; start = 11; width = 12; holding = of_characters; occurs = None })) ∷ [];
+        (codes "BUF", an_item 0 0 20 Alphanumeric)
+        ∷ (codes "INQ", input_cd 1)
+        ∷ (codes "IN-NAME", an_item 1 0 12 Alphanumeric)
+        ∷ (codes "IN-FROM", an_item 1 62 12 Alphanumeric)
+        ∷ (codes "IN-LEN", an_item 1 74 4 Numeric)
+        ∷ (codes "OUTQ", output_cd 2 1)
+        ∷ (codes "OUT-COUNT", an_item 2 0 4 Numeric)
+        ∷ (codes "OUT-LEN", an_item 2 4 4 Numeric)
+        ∷ (codes "OUT-TO", an_item 2 11 12 Alphanumeric) ∷ [];
     opening = spaces 20 ∷ opening_area ∷ opening_output 1 ∷ [];
     initial = None;
   };
   text =
       paragraph_at 16 (codes "FIRST-ONE") (
-      (Move (of_literal 17 17 (codes "Q1")) (item_at 17 25 (codes "IN-NAME") ∷ []) ∷ []) ∷
-      (Move (of_number 18 17 (codes "1")) (item_at 18 22 (codes "OUT-COUNT") ∷ []) ∷ []) ∷ [])
+      (move_of (of_literal 17 17 (codes "Q1")) (item_at 17 25 (codes "IN-NAME") ∷ []) ∷ []) ∷
+      (move_of (of_number 18 17 (codes "1")) (item_at 18 22 (codes "OUT-COUNT") ∷ []) ∷ []) ∷ [])
       ∷ paragraph_at 19 (codes "NEXT-ONE") (
-      (Receive' (name_at 20 20 (codes "INQ")) false (item_at 20 37 (codes "BUF")) (shape []) (row []) ∷ []) ∷
-      (Move (of_item 21 17 (codes "IN-LEN")) (item_at 21 27 (codes "OUT-LEN") ∷ []) ∷ []) ∷
-      (Move (of_item 22 17 (codes "IN-FROM")) (item_at 22 28 (codes "OUT-TO") ∷ []) ∷ []) ∷
-      (Send (name_at 23 17 (codes "OUTQ")) (Some (item_at 23 27 (codes "BUF"))) (Some (record { indicator = indicators.Emi; advancing = None })) ∷ []) ∷
-      (Go (name_at 24 18 (codes "NEXT-ONE")) ∷ []) ∷ []) ∷ [];
+      (receive_of (name_at 20 20 (codes "INQ")) false (item_at 20 37 (codes "BUF")) [] ∷ []) ∷
+      (move_of (of_item 21 17 (codes "IN-LEN")) (item_at 21 27 (codes "OUT-LEN") ∷ []) ∷ []) ∷
+      (move_of (of_item 22 17 (codes "IN-FROM")) (item_at 22 28 (codes "OUT-TO") ∷ []) ∷ []) ∷
+      (send_of (name_at 23 17 (codes "OUTQ")) (Some (item_at 23 27 (codes "BUF"))) (Some (record { indicator = indicators.Emi; advancing = None })) ∷ []) ∷
+      (go_of (name_at 24 18 (codes "NEXT-ONE")) ∷ []) ∷ []) ∷ [];
 }
 
 -- its area before any message, and when T1 has sent HELLO
@@ -93,63 +94,63 @@ unfolding unit_limits
 echo_answers = refl
 
 -- the branches of ORDERS
-abbrev leaves : List Statement
-leaves = Go (name_at 47 36 (codes "ONE-ORDER-END")) ∷ []
+abbrev leaves : List Tree
+leaves = go_of (name_at 47 36 (codes "ONE-ORDER-END")) ∷ []
 
-abbrev accepts : List Statement
-accepts = Add (addends.Item (item_at 50 20 (codes "ORD-QTY"))) (item_at 50 31 (codes "TOTAL-QTY")) ∷ Move (of_literal 51 21 (codes "ACCEPTED")) (item_at 51 35 (codes "REP-WORD") ∷ []) ∷ []
+abbrev accepts : List Tree
+accepts = add_of (addends.Item (item_at 50 20 (codes "ORD-QTY"))) (item_at 50 31 (codes "TOTAL-QTY")) ∷ move_of (of_literal 51 21 (codes "ACCEPTED")) (item_at 51 35 (codes "REP-WORD") ∷ []) ∷ []
 
-abbrev rejects : List Statement
-rejects = Move (of_literal 53 21 (codes "REJECTED")) (item_at 53 35 (codes "REP-WORD") ∷ []) ∷ []
+abbrev rejects : List Tree
+rejects = move_of (of_literal 53 21 (codes "REJECTED")) (item_at 53 35 (codes "REP-WORD") ∷ []) ∷ []
 
 abbrev pub orders : Program
 orders = record {
   layout = record {
     names =
-        (codes "TOTAL-QTY", an_item (record { area = 0; start = 0; width = 6; holding = of_digits; occurs = None }))
-        ∷ (codes "ORDER-REC", an_item (record { area = 1; start = 0; width = 18; holding = of_items; occurs = None }))
-        ∷ (codes "ORD-KIND", an_item (record { area = 1; start = 0; width = 1; holding = of_characters; occurs = None }))
-        ∷ (codes "ORD-NO", an_item (record { area = 1; start = 1; width = 4; holding = of_digits; occurs = None }))
-        ∷ (codes "ORD-ITEM", an_item (record { area = 1; start = 5; width = 10; holding = of_characters; occurs = None }))
-        ∷ (codes "ORD-QTY", an_item (record { area = 1; start = 15; width = 3; holding = of_digits; occurs = None }))
-        ∷ (codes "REPLY-REC", an_item (record { area = 2; start = 0; width = 13; holding = of_items; occurs = None }))
-        ∷ (codes "REP-WORD", an_item (record { area = 2; start = 0; width = 9; holding = of_characters; occurs = None }))
-        ∷ (codes "REP-NO", an_item (record { area = 2; start = 9; width = 4; holding = of_characters; occurs = None }))
-        ∷ (codes "TOTAL-REC", an_item (record { area = 3; start = 0; width = 12; holding = of_items; occurs = None }))
-        ∷ (codes "TOT-OUT", an_item (record { area = 3; start = 6; width = 6; holding = of_digits; occurs = None }))
-        ∷ (codes "ORDER-IN", an_input 4)
-        ∷ (codes "Q-NAME", an_item (record { area = 4; start = 0; width = 12; holding = of_characters; occurs = None }))
-        ∷ (codes "Q-SOURCE", an_item (record { area = 4; start = 62; width = 12; holding = of_characters; occurs = None }))
-        ∷ (codes "Q-STATUS", an_item (record { area = 4; start = 79; width = 2; holding = of_characters; occurs = None }))
-        ∷ (codes "REPLY-OUT", an_output 5)
-        ∷ (codes "R-COUNT", an_item (record { area = 5; start = 0; width = 4; holding = of_digits; occurs = None }))
-        ∷ (codes "R-LENGTH", an_item (record { area = 5; start = 4; width = 4; holding = of_digits; occurs = None }))
-        ∷ (codes "R-STATUS", an_item (record { area = 5; start = 8; width = 2; holding = of_characters; occurs = None }))
-        ∷ (codes "R-ERROR", an_item (record { area = 5; start = 10; width = 1; holding = of_characters; occurs = None }))
-        ∷ (codes "R-DEST", an_item (record { area = 5; start = 11; width = 12; holding = of_characters; occurs = None })) ∷ [];
+        (codes "TOTAL-QTY", an_item 0 0 6 Numeric)
+        ∷ (codes "ORDER-REC", an_item 1 0 18 Group)
+        ∷ (codes "ORD-KIND", an_item 1 0 1 Alphanumeric)
+        ∷ (codes "ORD-NO", an_item 1 1 4 Numeric)
+        ∷ (codes "ORD-ITEM", an_item 1 5 10 Alphanumeric)
+        ∷ (codes "ORD-QTY", an_item 1 15 3 Numeric)
+        ∷ (codes "REPLY-REC", an_item 2 0 13 Group)
+        ∷ (codes "REP-WORD", an_item 2 0 9 Alphanumeric)
+        ∷ (codes "REP-NO", an_item 2 9 4 Alphanumeric)
+        ∷ (codes "TOTAL-REC", an_item 3 0 12 Group)
+        ∷ (codes "TOT-OUT", an_item 3 6 6 Numeric)
+        ∷ (codes "ORDER-IN", input_cd 4)
+        ∷ (codes "Q-NAME", an_item 4 0 12 Alphanumeric)
+        ∷ (codes "Q-SOURCE", an_item 4 62 12 Alphanumeric)
+        ∷ (codes "Q-STATUS", an_item 4 79 2 Alphanumeric)
+        ∷ (codes "REPLY-OUT", output_cd 5 1)
+        ∷ (codes "R-COUNT", an_item 5 0 4 Numeric)
+        ∷ (codes "R-LENGTH", an_item 5 4 4 Numeric)
+        ∷ (codes "R-STATUS", an_item 5 8 2 Alphanumeric)
+        ∷ (codes "R-ERROR", an_item 5 10 1 Alphanumeric)
+        ∷ (codes "R-DEST", an_item 5 11 12 Alphanumeric) ∷ [];
     opening = codes "000000" ∷ (codes " 0000" ++ spaces 10 ++ codes "000") ∷ spaces 13 ∷ codes "TOTAL 000000" ∷ opening_area ∷ opening_output 1 ∷ [];
     initial = Some 4;
   };
   text =
       paragraph_at 34 (codes "MAIN-LINE") (
-      (Move (of_literal 35 17 (codes "ORDERS")) (item_at 35 29 (codes "Q-NAME") ∷ []) ∷ []) ∷
-      (Move (of_number 36 17 (codes "1")) (item_at 36 22 (codes "R-COUNT") ∷ []) ∷ []) ∷
-      (Perform (name_at 37 20 (codes "ONE-ORDER")) (Some (name_at 37 35 (codes "ONE-ORDER-END"))) (repetitions.Until (alone (simples.Compares (of_item 38 22 (codes "ORD-KIND")) false relations.Equal (of_literal 38 33 (codes "T"))))) ∷ []) ∷
-      (Move (of_item 39 17 (codes "TOTAL-QTY")) (item_at 39 30 (codes "TOT-OUT") ∷ []) ∷ []) ∷
-      (Move (of_number 40 17 (codes "12")) (item_at 40 23 (codes "R-LENGTH") ∷ []) ∷ []) ∷
-      (Send (name_at 41 17 (codes "REPLY-OUT")) (Some (item_at 41 32 (codes "TOTAL-REC"))) (Some (record { indicator = indicators.Emi; advancing = None })) ∷ []) ∷
-      (Stop ∷ []) ∷ [])
+      (move_of (of_literal 35 17 (codes "ORDERS")) (item_at 35 29 (codes "Q-NAME") ∷ []) ∷ []) ∷
+      (move_of (of_number 36 17 (codes "1")) (item_at 36 22 (codes "R-COUNT") ∷ []) ∷ []) ∷
+      (perform_of (name_at 37 20 (codes "ONE-ORDER")) (Some (name_at 37 35 (codes "ONE-ORDER-END"))) (repetitions.Until (alone (simples.Compares (of_item 38 22 (codes "ORD-KIND")) false relations.Equal (of_literal 38 33 (codes "T"))))) ∷ []) ∷
+      (move_of (of_item 39 17 (codes "TOTAL-QTY")) (item_at 39 30 (codes "TOT-OUT") ∷ []) ∷ []) ∷
+      (move_of (of_number 40 17 (codes "12")) (item_at 40 23 (codes "R-LENGTH") ∷ []) ∷ []) ∷
+      (send_of (name_at 41 17 (codes "REPLY-OUT")) (Some (item_at 41 32 (codes "TOTAL-REC"))) (Some (record { indicator = indicators.Emi; advancing = None })) ∷ []) ∷
+      (stop_of ∷ []) ∷ [])
       ∷ paragraph_at 43 (codes "ONE-ORDER") (
-      (Move (operands.Spaces (at 44 17)) (item_at 44 27 (codes "ORDER-REC") ∷ []) ∷ []) ∷
-      (Receive' (name_at 45 20 (codes "ORDER-IN")) false (item_at 45 42 (codes "ORDER-REC")) (shape []) (row []) ∷ []) ∷
-      (Move (of_item 46 17 (codes "Q-SOURCE")) (item_at 46 29 (codes "R-DEST") ∷ []) ∷ []) ∷
-      (If' (at 47 12) (alone (simples.Compares (of_item 47 15 (codes "ORD-KIND")) false relations.Equal (of_literal 47 26 (codes "T")))) (shape leaves) (row leaves) (shape []) (row []) ∷ []) ∷
-      (Move (of_item 48 17 (codes "ORD-NO")) (item_at 48 27 (codes "REP-NO") ∷ []) ∷ []) ∷
-      (If' (at 49 12) (alone (simples.Numeric (item_at 49 15 (codes "ORD-QTY")) false)) (shape accepts) (row accepts) (shape rejects) (row rejects) ∷ []) ∷
-      (Move (of_number 54 17 (codes "13")) (item_at 54 23 (codes "R-LENGTH") ∷ []) ∷ []) ∷
-      (Send (name_at 55 17 (codes "REPLY-OUT")) (Some (item_at 55 32 (codes "REPLY-REC"))) (Some (record { indicator = indicators.Emi; advancing = Some (record { after = true; lines = lines.Count (addends.Number (digits_at 56 32 (codes "1"))) }) })) ∷ []) ∷ [])
+      (move_of (operands.Spaces (at 44 17)) (item_at 44 27 (codes "ORDER-REC") ∷ []) ∷ []) ∷
+      (receive_of (name_at 45 20 (codes "ORDER-IN")) false (item_at 45 42 (codes "ORDER-REC")) [] ∷ []) ∷
+      (move_of (of_item 46 17 (codes "Q-SOURCE")) (item_at 46 29 (codes "R-DEST") ∷ []) ∷ []) ∷
+      (if_of (at 47 12) (alone (simples.Compares (of_item 47 15 (codes "ORD-KIND")) false relations.Equal (of_literal 47 26 (codes "T")))) (leaves) [] ∷ []) ∷
+      (move_of (of_item 48 17 (codes "ORD-NO")) (item_at 48 27 (codes "REP-NO") ∷ []) ∷ []) ∷
+      (if_of (at 49 12) (alone (simples.Numeric (item_at 49 15 (codes "ORD-QTY")) false)) (accepts) (rejects) ∷ []) ∷
+      (move_of (of_number 54 17 (codes "13")) (item_at 54 23 (codes "R-LENGTH") ∷ []) ∷ []) ∷
+      (send_of (name_at 55 17 (codes "REPLY-OUT")) (Some (item_at 55 32 (codes "REPLY-REC"))) (Some (record { indicator = indicators.Emi; advancing = Some (record { after = true; lines = lines.Count (addends.Number (digits_at 56 32 (codes "1"))) }) })) ∷ []) ∷ [])
       ∷ paragraph_at 57 (codes "ONE-ORDER-END") (
-      (Exit ∷ []) ∷ []) ∷ [];
+      (exit_of ∷ []) ∷ []) ∷ [];
 }
 
 -- what ORDERS is given: a message of this length and text from T1

@@ -20,40 +20,39 @@ use Rattle.cob_proc.specs.declared.tree.Indicator.TheVariants as indicators
 use Rattle.cob_proc.specs.declared.tree.Key.TheVariants as keys
 use Rattle.cob_proc.specs.declared.tree.Lines.{Lines}
 use Rattle.cob_proc.specs.declared.tree.Lines.TheVariants as lines
-use Rattle.cob_proc.specs.declared.tree.Paragraph.{Paragraph}
 use Rattle.cob_proc.specs.declared.tree.Repetition.TheVariants as repetitions
-use Rattle.cob_proc.specs.declared.tree.Statement.{Statement, Add, If', Exit, Stop, Receive', Send, SwitchInput, SwitchOutput, Accept}
+use Rattle.cob_proc.specs.Trees.{Tree, ParagraphTree}
 use Rattle.cob_meaning.specs.Meaning.{Ending, Stopped, Wants, Meaning, Program, meaning, meaning_within, unit_limits}
-use Rattle.cob_meaning.proofs.Trees.{row, shape, here, name, item, item_by_number, item_by_item, of_item, literal, a_numeral, by_number, by_item, move_to, equals, alone, perform, perform_thru, go_to, paragraph, quoted}
+use Rattle.cob_meaning.proofs.Trees.{here, name, item, item_by_number, item_by_item, of_item, literal, a_numeral, by_number, by_item, move_to, equals, alone, perform, perform_thru, go_to, paragraph, quoted, accept_of, add_of, exit_of, if_of, receive_of, send_of, stop_of, switch_input_of, switch_output_of}
 use Rattle.cob_meaning.proofs.SmallPrograms.{out_area, program, shows, sent, at_once, data_fault}
 
-abbrev pub main : List Statement → List Paragraph → Program
+abbrev pub main : List Tree → List ParagraphTree → Program
 main statements others = program (codes "ABC") (codes "042") (codes "XY12") (paragraph (codes "MAIN") statements ∷ others)
 
-abbrev pub runs : List Statement → List Paragraph → Meaning
+abbrev pub runs : List Tree → List ParagraphTree → Meaning
 runs statements others = meaning (main statements others) None []
 
 -- shows M and stops
-abbrev pub shows_m : List Statement
+abbrev pub shows_m : List Tree
 shows_m = shows (codes "M") ∷ []
 
 -- adds a number to M
-abbrev adds : List ℕ → Statement
-adds text = Add (by_number text) (item (codes "M"))
+abbrev adds : List ℕ → Tree
+adds text = add_of (by_number text) (item (codes "M"))
 
-abbrev pub once_more : Paragraph
+abbrev pub once_more : ParagraphTree
 once_more = paragraph (codes "P") (adds (codes "1") ∷ [])
 
 abbrev m_is : List ℕ → Condition
 m_is text = alone (equals (of_item (codes "M")) (a_numeral text))
 
 -- the end of the text stops the unit
-end_of_text : runs (Exit ∷ []) [] ≡ at_once (Stopped stop.Run)
+end_of_text : runs (exit_of ∷ []) [] ≡ at_once (Stopped stop.Run)
 unfolding unit_limits
 end_of_text = refl
 
 -- so does STOP RUN, and nothing behind it is done
-stop_run : runs (Stop ∷ shows_m) [] ≡ at_once (Stopped stop.Run)
+stop_run : runs (stop_of ∷ shows_m) [] ≡ at_once (Stopped stop.Run)
 unfolding unit_limits
 stop_run = refl
 
@@ -63,7 +62,7 @@ unfolding unit_limits
 perform_once = refl
 
 -- without PERFORM the next paragraph follows
-falls_through : runs (Exit ∷ []) (once_more ∷ paragraph (codes "Q") shows_m ∷ []) ≡ sent (codes "043")
+falls_through : runs (exit_of ∷ []) (once_more ∷ paragraph (codes "Q") shows_m ∷ []) ≡ sent (codes "043")
 unfolding unit_limits
 falls_through = refl
 
@@ -93,7 +92,7 @@ unfolding unit_limits
 until_later = refl
 
 -- a fault in UNTIL's test stops the unit before its turn is counted
-until_letters : meaning_within (record { statements = 2; verbs = 1 }) (program (codes "ABC") (codes "0A2") (codes "XY12") (paragraph (codes "MAIN") (Exit ∷ perform (codes "P") (repetitions.Until (m_is (codes "42"))) ∷ []) ∷ once_more ∷ [])) None [] ≡ data_fault
+until_letters : meaning_within (record { statements = 2; verbs = 1 }) (program (codes "ABC") (codes "0A2") (codes "XY12") (paragraph (codes "MAIN") (exit_of ∷ perform (codes "P") (repetitions.Until (m_is (codes "42"))) ∷ []) ∷ once_more ∷ [])) None [] ≡ data_fault
 until_letters = refl
 
 -- THRU takes in the paragraphs between
@@ -112,12 +111,12 @@ unfolding unit_limits
 go_in_range_ends = refl
 
 -- and may go back to its first
-go_back_in_range : runs (perform_thru (codes "P") (codes "Q") repetitions.Once ∷ shows_m) (once_more ∷ paragraph (codes "Q") (If' here (m_is (codes "45")) (shape (Exit ∷ [])) (row (Exit ∷ [])) (shape (go_to (codes "P") ∷ [])) (row (go_to (codes "P") ∷ [])) ∷ []) ∷ []) ≡ sent (codes "045")
+go_back_in_range : runs (perform_thru (codes "P") (codes "Q") repetitions.Once ∷ shows_m) (once_more ∷ paragraph (codes "Q") (if_of here (m_is (codes "45")) ((exit_of ∷ [])) ((go_to (codes "P") ∷ [])) ∷ []) ∷ []) ≡ sent (codes "045")
 unfolding unit_limits
 go_back_in_range = refl
 
 -- a GO goes back too
-go_back : runs (adds (codes "1") ∷ If' here (m_is (codes "44")) (shape shows_m) (row shows_m) (shape []) (row []) ∷ go_to (codes "MAIN") ∷ []) [] ≡ sent (codes "044")
+go_back : runs (adds (codes "1") ∷ if_of here (m_is (codes "44")) (shows_m) [] ∷ go_to (codes "MAIN") ∷ []) [] ≡ sent (codes "044")
 unfolding unit_limits
 go_back = refl
 
@@ -127,8 +126,8 @@ unfolding unit_limits
 perform_in_perform = refl
 
 -- RECEIVE C MESSAGE INTO A, and where there is no data 100 is added to M
-abbrev receives : Statement
-receives = Receive' (name (codes "C")) false (item (codes "A")) (shape (adds (codes "100") ∷ [])) (row (adds (codes "100") ∷ []))
+abbrev receives : Tree
+receives = receive_of (name (codes "C")) false (item (codes "A")) ((adds (codes "100") ∷ []))
 
 abbrev asked : Call
 asked = call.Receive opening_area kind.Message 3 true
@@ -159,7 +158,7 @@ unfolding unit_limits
 given_area = refl
 
 -- first the area and then the text, which may be for an item over it
-text_over_area : meaning (main (Receive' (name (codes "C")) false (item (codes "LEN")) (shape []) (row []) ∷ shows (codes "LEN") ∷ []) []) None (reply.Given two_given (codes "HI") ∷ []) ≡ answered (call.Receive opening_area kind.Message 4 false ∷ []) (sends (codes "HI02"))
+text_over_area : meaning (main (receive_of (name (codes "C")) false (item (codes "LEN")) [] ∷ shows (codes "LEN") ∷ []) []) None (reply.Given two_given (codes "HI") ∷ []) ≡ answered (call.Receive opening_area kind.Message 4 false ∷ []) (sends (codes "HI02"))
 unfolding unit_limits
 text_over_area = refl
 
@@ -179,7 +178,7 @@ unfolding unit_limits
 refused = refl
 
 -- without NO DATA the call says so
-waits_without_no_data : runs (Receive' (name (codes "C")) true (item (codes "B")) (shape []) (row []) ∷ []) [] ≡ at_once (Wants (call.Receive opening_area kind.Segment 5 false))
+waits_without_no_data : runs (receive_of (name (codes "C")) true (item (codes "B")) [] ∷ []) [] ≡ at_once (Wants (call.Receive opening_area kind.Segment 5 false))
 unfolding unit_limits
 waits_without_no_data = refl
 
@@ -191,28 +190,28 @@ abbrev with_names : List ℕ
 with_names = handed ++ zeros 14 ++ spaces 12 ++ zeros 13
 
 -- the names of START come into the CD that has INITIAL
-initial_names : meaning (main (Accept (name (codes "C")) ∷ []) []) (Some handed) [] ≡ at_once (Wants (call.Count with_names))
+initial_names : meaning (main (accept_of (name (codes "C")) ∷ []) []) (Some handed) [] ≡ at_once (Wants (call.Count with_names))
 unfolding unit_limits
 initial_names = refl
 
 -- ACCEPT
-accept : runs (Accept (name (codes "C")) ∷ []) [] ≡ at_once (Wants (call.Count opening_area))
+accept : runs (accept_of (name (codes "C")) ∷ []) [] ≡ at_once (Wants (call.Count opening_area))
 unfolding unit_limits
 accept = refl
 
 -- a key is taken as it stands, with its spaces
-key_of_item : runs (move_to (literal (codes "K")) (item (codes "A") ∷ []) ∷ SwitchInput true false (name (codes "C")) (keys.Item (item (codes "A"))) ∷ []) [] ≡ at_once (Wants (call.SwitchInput true false opening_area (codes "K  ")))
+key_of_item : runs (move_to (literal (codes "K")) (item (codes "A") ∷ []) ∷ switch_input_of true false (name (codes "C")) (keys.Item (item (codes "A"))) ∷ []) [] ≡ at_once (Wants (call.SwitchInput true false opening_area (codes "K  ")))
 unfolding unit_limits
 key_of_item = refl
 
 -- so is a literal
-key_of_literal : runs (SwitchOutput false (name (codes "D")) (keys.Literal (quoted (codes "PASS"))) ∷ []) [] ≡ at_once (Wants (call.SwitchOutput false out_area (codes "PASS")))
+key_of_literal : runs (switch_output_of false (name (codes "D")) (keys.Literal (quoted (codes "PASS"))) ∷ []) [] ≡ at_once (Wants (call.SwitchOutput false out_area (codes "PASS")))
 unfolding unit_limits
 key_of_literal = refl
 
 -- SEND D FROM A with an end and an advance
-abbrev pub ends : Indicator → Option Advancing → Statement
-ends indicator advancing = Send (name (codes "D")) (Some (item (codes "A"))) (Some (record { indicator = indicator; advancing = advancing }))
+abbrev pub ends : Indicator → Option Advancing → Tree
+ends indicator advancing = send_of (name (codes "D")) (Some (item (codes "A"))) (Some (record { indicator = indicator; advancing = advancing }))
 
 abbrev pub before : Lines → Option Advancing
 before lines = Some (record { after = false; lines = lines })
@@ -255,17 +254,17 @@ unfolding unit_limits
 sends_by_other_item = refl
 
 -- an end may be sent without a text
-sends_end_alone : runs (Send (name (codes "D")) None (Some (record { indicator = indicators.Emi; advancing = None })) ∷ []) [] ≡ at_once (Wants (call.Send out_area (part.Emi (advance.After 1)) None))
+sends_end_alone : runs (send_of (name (codes "D")) None (Some (record { indicator = indicators.Emi; advancing = None })) ∷ []) [] ≡ at_once (Wants (call.Send out_area (part.Emi (advance.After 1)) None))
 unfolding unit_limits
 sends_end_alone = refl
 
 -- a subscript chooses an occurrence
-second_destination : runs (move_to (literal (codes "T2")) (item_by_number (codes "TO") (codes "2") ∷ []) ∷ SwitchOutput true (name (codes "D")) (keys.Literal (quoted (codes "P"))) ∷ []) [] ≡ at_once (Wants (call.SwitchOutput true (zeros 10 ++ 48 ∷ spaces 12 ++ 48 ∷ codes "T2          ") (codes "P")))
+second_destination : runs (move_to (literal (codes "T2")) (item_by_number (codes "TO") (codes "2") ∷ []) ∷ switch_output_of true (name (codes "D")) (keys.Literal (quoted (codes "P"))) ∷ []) [] ≡ at_once (Wants (call.SwitchOutput true (zeros 10 ++ 48 ∷ spaces 12 ++ 48 ∷ codes "T2          ") (codes "P")))
 unfolding unit_limits
 second_destination = refl
 
 -- an item chooses it too
-subscript_by_item : runs (move_to (a_numeral (codes "1")) (item (codes "M") ∷ []) ∷ move_to (literal (codes "T1")) (item_by_item (codes "TO") (codes "M") ∷ []) ∷ SwitchOutput true (name (codes "D")) (keys.Literal (quoted (codes "P"))) ∷ []) [] ≡ at_once (Wants (call.SwitchOutput true (zeros 10 ++ 48 ∷ codes "T1          " ++ 48 ∷ spaces 12) (codes "P")))
+subscript_by_item : runs (move_to (a_numeral (codes "1")) (item (codes "M") ∷ []) ∷ move_to (literal (codes "T1")) (item_by_item (codes "TO") (codes "M") ∷ []) ∷ switch_output_of true (name (codes "D")) (keys.Literal (quoted (codes "P"))) ∷ []) [] ≡ at_once (Wants (call.SwitchOutput true (zeros 10 ++ 48 ∷ codes "T1          " ++ 48 ∷ spaces 12) (codes "P")))
 unfolding unit_limits
 subscript_by_item = refl
 
@@ -275,34 +274,34 @@ unfolding unit_limits
 no_such_occurrence = refl
 
 -- within so many statements and verbs
-abbrev within : ℕ → ℕ → List Statement → List Paragraph → List Reply → Meaning
+abbrev within : ℕ → ℕ → List Tree → List ParagraphTree → List Reply → Meaning
 within statements verbs main_statements others replies =
     meaning_within (record { statements = statements; verbs = verbs }) (main main_statements others) None replies
 
 abbrev limit : Meaning
 limit = at_once (Stopped stop.Limit)
 
-abbrev pub accepts : Statement
-accepts = Accept (name (codes "C"))
+abbrev pub accepts : Tree
+accepts = accept_of (name (codes "C"))
 
 -- as many statements as may be
-last_statement : within 2 1 (Exit ∷ Exit ∷ []) [] [] ≡ at_once (Stopped stop.Run)
+last_statement : within 2 1 (exit_of ∷ exit_of ∷ []) [] [] ≡ at_once (Stopped stop.Run)
 last_statement = refl
 
 -- the next stops the unit before it does anything
-one_statement_more : within 2 1 (Exit ∷ Exit ∷ accepts ∷ []) [] [] ≡ limit
+one_statement_more : within 2 1 (exit_of ∷ exit_of ∷ accepts ∷ []) [] [] ≡ limit
 one_statement_more = refl
 
 -- PERFORM counts one, and each turn of TIMES one more: seven here
-turns_count : within 7 1 (perform (codes "P") (repetitions.Times (by_number (codes "3"))) ∷ []) (paragraph (codes "Q") (Stop ∷ []) ∷ once_more ∷ []) [] ≡ limit
+turns_count : within 7 1 (perform (codes "P") (repetitions.Times (by_number (codes "3"))) ∷ []) (paragraph (codes "Q") (stop_of ∷ []) ∷ once_more ∷ []) [] ≡ limit
 turns_count = refl
 
 -- so eight suffice for the STOP behind it
-turns_counted : within 8 1 (perform (codes "P") (repetitions.Times (by_number (codes "3"))) ∷ []) (paragraph (codes "Q") (Stop ∷ []) ∷ once_more ∷ []) [] ≡ at_once (Stopped stop.Run)
+turns_counted : within 8 1 (perform (codes "P") (repetitions.Times (by_number (codes "3"))) ∷ []) (paragraph (codes "Q") (stop_of ∷ []) ∷ once_more ∷ []) [] ≡ at_once (Stopped stop.Run)
 turns_counted = refl
 
 -- without TIMES or UNTIL there is no count for a turn
-plain_perform_counts_once : within 3 1 (perform (codes "P") repetitions.Once ∷ Stop ∷ []) (once_more ∷ []) [] ≡ at_once (Stopped stop.Run)
+plain_perform_counts_once : within 3 1 (perform (codes "P") repetitions.Once ∷ stop_of ∷ []) (once_more ∷ []) [] ≡ at_once (Stopped stop.Run)
 plain_perform_counts_once = refl
 
 -- a program without an end stops at the limit
@@ -318,5 +317,5 @@ verbs_count : within 9 1 (accepts ∷ accepts ∷ []) [] (reply.AreaIn opening_a
 verbs_count = refl
 
 -- the limit of verbs is looked at before the subscripts of the verb
-limit_before_data : within 9 0 (Send (name (codes "D")) (Some (item_by_number (codes "TO") (codes "9"))) None ∷ []) [] [] ≡ limit
+limit_before_data : within 9 0 (send_of (name (codes "D")) (Some (item_by_number (codes "TO") (codes "9"))) None ∷ []) [] [] ≡ limit
 limit_before_data = refl

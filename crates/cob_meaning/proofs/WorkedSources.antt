@@ -16,20 +16,15 @@ use Rattle.cob_forms.specs.Faults.{fault}
 use Rattle.cob_data.specs.declared.tree.DataDivision.{DataDivision}
 use Rattle.cob_data.specs.Clauses.{input_field_of, output_field_of}
 use Rattle.cob_data.specs.Divisions.{IsDivisionOf, communication_of, working_storage_of}
-use Rattle.cob_proc.specs.declared.tree.Paragraph.{Paragraph}
 use Rattle.cob_proc.specs.declared.tree.Repetition.TheVariants as repetitions
-use Rattle.cob_proc.specs.declared.tree.Statement.{Perform, Go, Stop}
 use Rattle.cob_proc.specs.Spelled.{IsProcedure}
-use Rattle.cob_proc.specs.Trees.{paragraph_tree}
+use Rattle.cob_proc.specs.Trees.{ParagraphTree}
 use Rattle.cob_meaning.specs.Meaning.{Program}
-use Rattle.cob_meaning.specs.Sources.{IsProgramOf, IsSourceFaultOf, Spells, tokens_fault}
+use Rattle.cob_meaning.specs.Sources.{IsProgramOf, IsSourceFaultOf, Spells, of_text, of_trees, tokens_fault}
+use Rattle.cob_meaning.proofs.Trees.{go_of, perform_of, stop_of}
 use Rattle.cob_meaning.proofs.Placed.{name_at, paragraph_at}
 use Rattle.cob_meaning.proofs.WorkedPrograms.{echo as echo_program, orders as orders_program}
-use Rattle.cob_meaning.proofs.SameTrees.{written_paragraph, same_paragraphs}
-
--- A program as its source spells it, by the trees of its paragraphs as they are matched
-spelled : (text : List Paragraph) (ts : List Token) → IsProcedure (map written_paragraph text) ts → IsProcedure (map paragraph_tree text) ts
-spelled text ts h = subst (λ trees. IsProcedure trees ts) (sym (same_paragraphs text)) h
+use Rattle.cob_meaning.proofs.RangeFaults.{fault_of_ranges, free_of_faults}
 
 -- the divisions that tokens tell before a place, under a name
 abbrev told : Name → Option Name → Option Name → List Token → DataDivision
@@ -41,7 +36,7 @@ told program source_computer object_computer ts = record {
   communication = communication_of ts;
 }
 
-echo_has_trees : IsProcedure (map written_paragraph echo_program.text) (drop 55 echo_list)
+echo_has_trees : IsProcedure echo_program.text (drop 55 echo_list)
 echo_has_trees = (
   _,
   (_, (refl, refl)),
@@ -121,9 +116,10 @@ echo_is_divided = record {
 }
 
 -- ECHO is the program whose calls are worked out
-echo_is_program : IsProgramOf echo echo_program
+pub echo_is_program : IsProgramOf echo echo_program
 unfolding next reading input_field_of output_field_of
 echo_is_program = record {
+  few = omega arith;
   tokens = echo_list;
   are_tokens = echo_tokens;
   spells = record {
@@ -131,13 +127,13 @@ echo_is_program = record {
     place = 55;
     division = told (name_at 2 20 (codes "ECHO")) None None (take 55 echo_list);
     is_division = echo_is_divided;
-    is_procedure = spelled echo_program.text (drop 55 echo_list) echo_has_trees;
+    is_procedure = echo_has_trees;
     layout = refl;
   };
-  no_fault = refl;
+  no_fault = free_of_faults echo_program refl refl;
 }
 
-orders_has_trees : IsProcedure (map written_paragraph orders_program.text) (drop 131 orders_list)
+orders_has_trees : IsProcedure orders_program.text (drop 131 orders_list)
 orders_has_trees = (
   _,
   (_, (refl, refl)),
@@ -268,6 +264,7 @@ orders_is_divided = record {
 orders_is_program : IsProgramOf orders orders_program
 unfolding next reading input_field_of output_field_of
 orders_is_program = record {
+  few = omega arith;
   tokens = orders_list;
   are_tokens = orders_tokens;
   spells = record {
@@ -275,10 +272,10 @@ orders_is_program = record {
     place = 131;
     division = told (name_at 2 20 (codes "ORDERS")) (Some (name_at 6 25 (codes "ANY-MACHINE"))) (Some (name_at 7 25 (codes "ANY-MACHINE"))) (take 131 orders_list);
     is_division = orders_is_divided;
-    is_procedure = spelled orders_program.text (drop 131 orders_list) orders_has_trees;
+    is_procedure = orders_has_trees;
     layout = refl;
   };
-  no_fault = refl;
+  no_fault = free_of_faults orders_program refl refl;
 }
 
 -- LEAVER, by the paragraph to which its last line goes
@@ -300,8 +297,8 @@ abbrev leaver_program : List ℕ → Program
 leaver_program target = record {
   layout = record { names = []; opening = []; initial = None };
   text =
-      paragraph_at 5 (codes "A1") ((Perform (name_at 6 20 (codes "B1")) None repetitions.Once ∷ []) ∷ (Stop ∷ []) ∷ [])
-      ∷ paragraph_at 8 (codes "B1") ((Go (name_at 9 18 target) ∷ []) ∷ []) ∷ [];
+      paragraph_at 5 (codes "A1") ((perform_of (name_at 6 20 (codes "B1")) None repetitions.Once ∷ []) ∷ (stop_of ∷ []) ∷ [])
+      ∷ paragraph_at 8 (codes "B1") ((go_of (name_at 9 18 target) ∷ []) ∷ []) ∷ [];
 }
 
 abbrev leaver_division : DataDivision
@@ -325,7 +322,7 @@ leaver_is_divided target = record {
   communication = refl;
 }
 
-leaver_has_trees : (target : List ℕ) → is name (word 18 target (place 9 174)) ≡ true → IsProcedure (map written_paragraph (leaver_program target).text) (drop 10 (leaver_tokens target))
+leaver_has_trees : (target : List ℕ) → is name (word 18 target (place 9 174)) ≡ true → IsProcedure (leaver_program target).text (drop 10 (leaver_tokens target))
 leaver_has_trees target named = (
   _,
   (_, (refl, refl)),
@@ -382,7 +379,7 @@ leaver_is_spelled target named right = record {
   place = 10;
   division = leaver_division;
   is_division = leaver_is_divided target;
-  is_procedure = spelled (leaver_program target).text (drop 10 (leaver_tokens target)) (leaver_has_trees target named);
+  is_procedure = leaver_has_trees target named;
   layout = refl;
 }
 
@@ -397,13 +394,8 @@ leaver_to_b1 = leaver_is_spelled (codes "B1") refl refl
 -- LEAVER: the GO of line 9 leaves the range that line 6 performs
 leaver_is_refused : IsSourceFaultOf leaver (fault 9 18 faults.LeavesRange)
 unfolding lines_tokens text_tokens front_of
-leaver_is_refused = inr (record {
-  tokens = leaver_tokens (codes "A1");
-  program = leaver_program (codes "A1");
-  are_tokens = refl;
-  spells = leaver_to_a1;
-  is_found = refl;
-})
+leaver_is_refused =
+    of_trees (leaver_tokens (codes "A1")) (leaver_program (codes "A1")) (omega arith) refl leaver_to_a1 (fault_of_ranges (leaver_program (codes "A1")) _ refl refl)
 
 -- LEAVER with another line 9
 abbrev leaver_with : List ℕ → List ℕ
@@ -420,12 +412,12 @@ leaver_with last = source (
 -- in which the GO stays in its range
 leaver_repaired : IsProgramOf (leaver_with (codes "           GO TO B1.")) (leaver_program (codes "B1"))
 unfolding lines_tokens text_tokens front_of
-leaver_repaired = record { tokens = leaver_tokens (codes "B1"); are_tokens = refl; spells = leaver_to_b1; no_fault = refl }
+leaver_repaired = record { few = omega arith; tokens = leaver_tokens (codes "B1"); are_tokens = refl; spells = leaver_to_b1; no_fault = free_of_faults (leaver_program (codes "B1")) refl refl }
 
 -- what stands in column 73 is not read
 leaver_with_column_73 : IsProgramOf (leaver_with (codes "           GO TO B1." ++ spaces 52 ++ 200 ∷ [])) (leaver_program (codes "B1"))
 unfolding lines_tokens text_tokens front_of
-leaver_with_column_73 = record { tokens = leaver_tokens (codes "B1"); are_tokens = refl; spells = leaver_to_b1; no_fault = refl }
+leaver_with_column_73 = record { few = omega arith; tokens = leaver_tokens (codes "B1"); are_tokens = refl; spells = leaver_to_b1; no_fault = free_of_faults (leaver_program (codes "B1")) refl refl }
 
 -- each of two paragraphs performs the other, and the first PERFORM of the text is told
 abbrev circle : List ℕ
@@ -439,13 +431,13 @@ circle_program = record {
   layout = record { names = []; opening = []; initial = None };
   text =
       paragraph_at 5 (codes "A1") (
-      (Perform (name_at 6 20 (codes "B1")) None repetitions.Once ∷ []) ∷
-      (Stop ∷ []) ∷ [])
+      (perform_of (name_at 6 20 (codes "B1")) None repetitions.Once ∷ []) ∷
+      (stop_of ∷ []) ∷ [])
       ∷ paragraph_at 8 (codes "B1") (
-      (Perform (name_at 9 20 (codes "A1")) None repetitions.Once ∷ []) ∷ []) ∷ [];
+      (perform_of (name_at 9 20 (codes "A1")) None repetitions.Once ∷ []) ∷ []) ∷ [];
 }
 
-circle_has_trees : IsProcedure (map written_paragraph circle_program.text) (drop 10 circle_tokens)
+circle_has_trees : IsProcedure circle_program.text (drop 10 circle_tokens)
 circle_has_trees = (
   _,
   (_, (refl, refl)),
@@ -511,10 +503,10 @@ circle_is_spelled = record {
     working_storage = refl;
     communication = refl;
   };
-  is_procedure = spelled circle_program.text (drop 10 circle_tokens) circle_has_trees;
+  is_procedure = circle_has_trees;
   layout = refl;
 }
 
 circle_is_refused : IsSourceFaultOf circle (fault 6 20 faults.PerformsItself)
 unfolding lines_tokens text_tokens front_of
-circle_is_refused = inr (record { tokens = circle_tokens; program = circle_program; are_tokens = refl; spells = circle_is_spelled; is_found = refl })
+circle_is_refused = of_trees circle_tokens circle_program (omega arith) refl circle_is_spelled (fault_of_ranges circle_program _ refl refl)

@@ -12,9 +12,8 @@ use Rattle.cob_proc.specs.declared.tree.Key.{Key}
 use Rattle.cob_proc.specs.declared.tree.Key.TheVariants as keys
 use Rattle.cob_proc.specs.declared.tree.Lines.{Lines}
 use Rattle.cob_proc.specs.declared.tree.Lines.TheVariants as lines
-use Rattle.cob_proc.specs.declared.tree.Statement.{SwitchInput, SwitchOutput}
 use Rattle.cob_meaning.specs.Meaning.{Wants, meaning, unit_limits}
-use Rattle.cob_meaning.proofs.Trees.{name, item, item_by_item, a_numeral, by_number, by_item, move_to, quoted}
+use Rattle.cob_meaning.proofs.Trees.{name, item, item_by_item, a_numeral, by_number, by_item, move_to, quoted, switch_input_of, switch_output_of}
 use Rattle.cob_meaning.proofs.SmallPrograms.{out_area, at_once, data_fault}
 use Rattle.cob_meaning.proofs.WorkedRuns.{accepts, answered, before, ends, ends_by, main, runs, sends_part, two_given}
 
@@ -26,47 +25,47 @@ abbrev held_in : List ℕ → Key
 held_in text = keys.Item (item text)
 
 -- ENABLE INPUT TERMINAL
-enable_terminal : runs (SwitchInput true true (name (codes "C")) pass ∷ []) [] ≡ at_once (Wants (call.SwitchInput true true opening_area (codes "PASS")))
+enable_terminal : runs (switch_input_of true true (name (codes "C")) pass ∷ []) [] ≡ at_once (Wants (call.SwitchInput true true opening_area (codes "PASS")))
 unfolding unit_limits
 enable_terminal = refl
 
 -- DISABLE INPUT TERMINAL
-disable_terminal : runs (SwitchInput false true (name (codes "C")) (held_in (codes "GX")) ∷ []) [] ≡ at_once (Wants (call.SwitchInput false true opening_area (codes "XY")))
+disable_terminal : runs (switch_input_of false true (name (codes "C")) (held_in (codes "GX")) ∷ []) [] ≡ at_once (Wants (call.SwitchInput false true opening_area (codes "XY")))
 unfolding unit_limits
 disable_terminal = refl
 
 -- ENABLE INPUT
-enable_input : runs (SwitchInput true false (name (codes "C")) pass ∷ []) [] ≡ at_once (Wants (call.SwitchInput true false opening_area (codes "PASS")))
+enable_input : runs (switch_input_of true false (name (codes "C")) pass ∷ []) [] ≡ at_once (Wants (call.SwitchInput true false opening_area (codes "PASS")))
 unfolding unit_limits
 enable_input = refl
 
 -- DISABLE INPUT, with the digits of a 9 item as its key
-disable_input : runs (SwitchInput false false (name (codes "C")) (held_in (codes "M")) ∷ []) [] ≡ at_once (Wants (call.SwitchInput false false opening_area (codes "042")))
+disable_input : runs (switch_input_of false false (name (codes "C")) (held_in (codes "M")) ∷ []) [] ≡ at_once (Wants (call.SwitchInput false false opening_area (codes "042")))
 unfolding unit_limits
 disable_input = refl
 
 -- ENABLE OUTPUT
-enable_output : runs (SwitchOutput true (name (codes "D")) (held_in (codes "A")) ∷ []) [] ≡ at_once (Wants (call.SwitchOutput true out_area (codes "ABC")))
+enable_output : runs (switch_output_of true (name (codes "D")) (held_in (codes "A")) ∷ []) [] ≡ at_once (Wants (call.SwitchOutput true out_area (codes "ABC")))
 unfolding unit_limits
 enable_output = refl
 
 -- DISABLE OUTPUT, with a group as its key
-disable_output : runs (SwitchOutput false (name (codes "D")) (held_in (codes "G")) ∷ []) [] ≡ at_once (Wants (call.SwitchOutput false out_area (codes "XY12")))
+disable_output : runs (switch_output_of false (name (codes "D")) (held_in (codes "G")) ∷ []) [] ≡ at_once (Wants (call.SwitchOutput false out_area (codes "XY12")))
 unfolding unit_limits
 disable_output = refl
 
 -- the subscript of a key is read before the call
-key_without_occurrence : runs (SwitchOutput true (name (codes "D")) (keys.Item (item_by_item (codes "TO") (codes "M"))) ∷ []) [] ≡ data_fault
+key_without_occurrence : runs (switch_output_of true (name (codes "D")) (keys.Item (item_by_item (codes "TO") (codes "M"))) ∷ []) [] ≡ data_fault
 unfolding unit_limits
 key_without_occurrence = refl
 
 -- the area of the reply is that of the next call
-area_of_input : meaning (main (SwitchInput true true (name (codes "C")) pass ∷ accepts ∷ []) []) None (reply.AreaIn two_given ∷ []) ≡ answered (call.SwitchInput true true opening_area (codes "PASS") ∷ []) (Wants (call.Count two_given))
+area_of_input : meaning (main (switch_input_of true true (name (codes "C")) pass ∷ accepts ∷ []) []) None (reply.AreaIn two_given ∷ []) ≡ answered (call.SwitchInput true true opening_area (codes "PASS") ∷ []) (Wants (call.Count two_given))
 unfolding unit_limits
 area_of_input = refl
 
 -- also of an output CD
-area_of_output : meaning (main (SwitchOutput false (name (codes "D")) pass ∷ SwitchOutput true (name (codes "D")) pass ∷ []) []) None (reply.AreaOut (codes "0002" ++ zeros 6 ++ zeros 1 ++ spaces 12 ++ zeros 1 ++ spaces 12) ∷ []) ≡ answered (call.SwitchOutput false out_area (codes "PASS") ∷ []) (Wants (call.SwitchOutput true (codes "0002" ++ zeros 6 ++ zeros 1 ++ spaces 12 ++ zeros 1 ++ spaces 12) (codes "PASS")))
+area_of_output : meaning (main (switch_output_of false (name (codes "D")) pass ∷ switch_output_of true (name (codes "D")) pass ∷ []) []) None (reply.AreaOut (codes "0002" ++ zeros 6 ++ zeros 1 ++ spaces 12 ++ zeros 1 ++ spaces 12) ∷ []) ≡ answered (call.SwitchOutput false out_area (codes "PASS") ∷ []) (Wants (call.SwitchOutput true (codes "0002" ++ zeros 6 ++ zeros 1 ++ spaces 12 ++ zeros 1 ++ spaces 12) (codes "PASS")))
 unfolding unit_limits
 area_of_output = refl
 

@@ -16,78 +16,89 @@ use Rattle.cob_meaning.specs.Storage.{Storage, held_by, number_in}
 use Rattle.cob_meaning.specs.Moves.{Content, a_number, a_text, a_group, all_spaces, all_zeros, content_at, from_left, item_at}
 
 -- how two numbers compare
-abbrev pub order : ℕ → ℕ → Relation
-order m n = if nat_lt m n then relation.Less else (if nat_lt n m then relation.Greater else relation.Equal)
+abbrev pub number_relation : ℕ → ℕ → Relation
+number_relation m n =
+    if nat_lt m n then relation.Less else (if nat_lt n m then relation.Greater else relation.Equal)
 
--- the first that is no equality
-abbrev pub first_order : Relation → Relation → Relation
-first_order relation.Equal other = other
-first_order relation.Greater other = relation.Greater
-first_order relation.Less other = relation.Less
+-- the first of two relations, or the second where the first is equality
+abbrev pub then_relation : Relation → Relation → Relation
+then_relation relation.Equal other = other
+then_relation relation.Greater other = relation.Greater
+then_relation relation.Less other = relation.Less
 
 -- how texts of one length compare, in the order of bytes
-abbrev pub text_order : List ℕ → List ℕ → Relation
-text_order [] others = relation.Equal
-text_order (c ∷ cs) [] = relation.Equal
-text_order (c ∷ cs) (d ∷ ds) = first_order (order c d) (text_order cs ds)
+abbrev pub text_relation : List ℕ → List ℕ → Relation
+text_relation [] others = relation.Equal
+text_relation (c ∷ cs) [] = relation.Equal
+text_relation (c ∷ cs) (d ∷ ds) = then_relation (number_relation c d) (text_relation cs ds)
 
--- the shorter text is filled with spaces
-abbrev pub character_order : List ℕ → List ℕ → Relation
+-- how two texts compare, the shorter one filled with spaces
+abbrev pub filled_relation : List ℕ → List ℕ → Relation
+filled_relation left right =
+    let size = max (length left) (length right) in
+    text_relation (from_left size left) (from_left size right)
+
+-- how many characters a side has by itself; SPACES and ZEROS have none
+abbrev pub own_length : Content → ℕ
+own_length (a_number digits) = length digits
+own_length (a_text characters) = length characters
+own_length (a_group characters) = length characters
+own_length all_spaces = 0
+own_length all_zeros = 0
+
+-- the characters of a side whose other side has this length
+abbrev pub side_characters : ℕ → Content → List ℕ
+side_characters size (a_number digits) = digits
+side_characters size (a_text characters) = characters
+side_characters size (a_group characters) = characters
+side_characters size all_spaces = spaces size
+side_characters size all_zeros = zeros size
+
+-- how two sides compare by characters
+abbrev pub character_order : Content → Content → Relation
 character_order left right =
-    let width = max (length left) (length right) in
-    text_order (from_left width left) (from_left width right)
+    filled_relation (side_characters (own_length right) left)
+    (side_characters (own_length left) right)
 
--- how many characters there are, but for SPACES and ZEROS
-abbrev pub extent : Content → ℕ
-extent (a_number digits) = length digits
-extent (a_text characters) = length characters
-extent (a_group characters) = length characters
-extent all_spaces = 0
-extent all_zeros = 0
-
--- the characters beside a side of this length
-abbrev pub beside : ℕ → Content → List ℕ
-beside width (a_number digits) = digits
-beside width (a_text characters) = characters
-beside width (a_group characters) = characters
-beside width all_spaces = spaces width
-beside width all_zeros = zeros width
-
+-- how two sides compare by number; none if a character of one is no digit
 abbrev pub number_order : List ℕ → List ℕ → Option Relation
 number_order left right = do
   m ← number_in left
   n ← number_in right
-  Some (order m n)
+  Some (number_relation m n)
 
--- By number where both sides are 9 items or numbers, or one is and the other is ZEROS; otherwise by
--- characters. None where a 9 item that is used as a number holds another character than a digit.
+-- By number if both sides are numeric items or numbers, or one is and the other is ZEROS; otherwise
+-- by characters. None if a numeric item that is used as a number holds a character that is no
+-- digit.
 abbrev pub compared : Content → Content → Option Relation
 compared (a_number left) (a_number right) = number_order left right
 compared (a_number left) all_zeros = number_order left (zeros 1)
 compared all_zeros (a_number right) = number_order (zeros 1) right
-compared left right = Some (character_order (beside (extent right) left) (beside (extent left) right))
+compared left right = Some (character_order left right)
 
+-- whether two relations are the same
 abbrev pub is_relation : Relation → Relation → Bool
 is_relation relation.Equal relation.Equal = true
 is_relation relation.Greater relation.Greater = true
 is_relation relation.Less relation.Less = true
 is_relation _ _ = false
 
-abbrev pub unless : Bool → Bool → Bool
-unless denied holds = if denied then not holds else holds
+-- an answer, turned round if NOT is written
+abbrev pub with_not : Bool → Bool → Bool
+with_not denied answer = if denied then not answer else answer
 
--- whether a simple condition holds; none where the unit stops for DATA
+-- whether a simple condition holds; none if the unit stops for DATA
 abbrev pub part_holds : Layout → Storage → Simple → Option Bool
 part_holds layout storage (simple.Compares left denied relation right) = do
   one ← content_at layout left storage
   other ← content_at layout right storage
   found ← compared one other
-  Some (unless denied (is_relation found relation))
+  Some (with_not denied (is_relation found relation))
 part_holds layout storage (simple.Numeric identifier denied) = do
   item ← item_at layout identifier storage
-  Some (unless denied (all_ascii_digits (held_by item storage)))
+  Some (with_not denied (all_ascii_digits (held_by item storage)))
 
--- each part is looked at, also where one before it settles the answer
+-- whether each part holds; each is looked at, also if one before it settles the answer
 abbrev pub parts_hold : Layout → Storage → List Simple → Option (List Bool)
 parts_hold layout storage [] = Some []
 parts_hold layout storage (part ∷ parts) = do
@@ -95,12 +106,14 @@ parts_hold layout storage (part ∷ parts) = do
   others ← parts_hold layout storage parts
   Some (one ∷ others)
 
-abbrev pub joined : Joint → List Bool → Bool
-joined joint.Or = list_any (λ holds. holds)
-joined joint.And = list_all (λ holds. holds)
-joined joint.Alone = list_all (λ holds. holds)
+-- what the parts give together: one of them is enough for OR, and AND needs all
+abbrev pub together : Joint → List Bool → Bool
+together joint.Or = list_any (λ holds. holds)
+together joint.And = list_all (λ holds. holds)
+together joint.Alone = list_all (λ holds. holds)
 
+-- whether a condition holds; none if the unit stops for DATA
 abbrev pub holds : Layout → Condition → Storage → Option Bool
 holds layout condition storage = do
   parts ← parts_hold layout storage condition.parts
-  Some (joined condition.joint parts)
+  Some (together condition.joint parts)

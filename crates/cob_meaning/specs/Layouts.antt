@@ -1,66 +1,54 @@
--- Where the items of a program stand in its storage, and what its names mean.
-use Rattle.std.specs.Prelude.{ℕ, ◌+◌, ◌-◌, ◌*◌, ◌&&◌, nat_le, List, [], ◌∷◌, Option, Some, None, if◌then◌else◌, bytes_eq, option_and_then}
+-- What the names of a program stand for, and where its items are.
+use Rattle.std.specs.Prelude.{ℕ, ◌+◌, ◌-◌, ◌*◌, ◌&&◌, nat_le, List, find, Option, Some, None, if◌then◌else◌, bytes_eq, option_and_then, option_map}
+use Rattle.com_cd.specs.OutputArea.{out_start}
+use Rattle.com_cd.specs.declared.output_area.OutField.TheVariants as out
 use Rattle.cob_forms.specs.declared.written.Name.{Name}
+use Rattle.cob_data.specs.declared.tree.ItemPlace.{ItemPlace}
+use Rattle.cob_data.specs.Layout.{Declared, Referent, data_at, input_cd, output_cd}
 
 -- one after another, as far as there are any
 infixl 10 ◌>>=◌
 abbrev pub ◌>>=◌ : {A B : Type 0} → Option A → (A → Option B) → Option B
 o >>= f = option_and_then f o
 
--- what an item holds: characters, digits, or other items
-pub data Holding : Type 0 where
-  of_characters of_digits of_items : Holding
-
--- An item: its area, where it begins there, how many characters it has, and what they are. An item that
--- is written with a subscript occurs so often, each 13 characters behind the one before.
-pub record Item : Type 0 where
-  pub area : ℕ
-  pub start : ℕ
-  pub width : ℕ
-  pub holding : Holding
-  pub occurs : Option ℕ
-
--- what a name of the Data Division means
-pub data Meant : Type 0 where
-  an_item : Item → Meant
-  an_input : (area : ℕ) → Meant
-  an_output : (area : ℕ) → Meant
-
--- The names of a program with what they mean, in the order of the text; its areas as they begin; and the
--- area of the CD that has INITIAL.
+-- The names of a program with what they stand for, in the order of the text; its areas as they
+-- begin; and the area of the CD that has INITIAL.
 pub record Layout : Type 0 where
-  pub names : List (List ℕ × Meant)
+  pub names : List Declared
   pub opening : List (List ℕ)
   pub initial : Option ℕ
 
-abbrev pub meant_in : List (List ℕ × Meant) → List ℕ → Option Meant
-meant_in [] name = None
-meant_in (entry ∷ entries) name = if bytes_eq entry.0 name then Some entry.1 else meant_in entries name
+-- what a name stands for; none if it is not declared
+abbrev pub referent : Layout → Name → Option Referent
+referent layout name =
+    option_map (λ entry. entry.1) (find (λ entry. bytes_eq entry.0 name.text) layout.names)
 
--- what a name means; none where it is not declared
-abbrev pub meant : Layout → Name → Option Meant
-meant layout name = meant_in layout.names name.text
-
-abbrev pub item_meant : Meant → Option Item
-item_meant (an_item item) = Some item
-item_meant (an_input area) = None
-item_meant (an_output area) = None
+-- the place of data, without a subscript
+abbrev pub place_of : Referent → Option ItemPlace
+place_of (data_at place occurs) = Some place
+place_of (input_cd area) = None
+place_of (output_cd area occurrences) = None
 
 -- the area of a CD
-abbrev pub area_meant : Meant → Option ℕ
-area_meant (an_item item) = None
-area_meant (an_input area) = Some area
-area_meant (an_output area) = Some area
+abbrev pub area_of : Referent → Option ℕ
+area_of (data_at place occurs) = None
+area_of (input_cd area) = Some area
+area_of (output_cd area occurrences) = Some area
 
--- the item of a name, as it stands without a subscript
-abbrev pub item_of : Layout → Name → Option Item
-item_of layout name = meant layout name >>= item_meant
+-- the item that a name stands for, without a subscript
+abbrev pub item_of : Layout → Name → Option ItemPlace
+item_of layout name = referent layout name >>= place_of
 
--- the area of a CD's name
+-- the area of the CD that a name stands for
 abbrev pub cd_of : Layout → Name → Option ℕ
-cd_of layout name = meant layout name >>= area_meant
+cd_of layout name = referent layout name >>= area_of
 
--- an occurrence of an item, from 1; none where there is none of this number
-abbrev pub occurrence : ℕ → Item → ℕ → Option Item
-occurrence times item n =
-    if nat_le 1 n && nat_le n times then Some (record item { start = item.start + 13 * (n - 1); occurs = None }) else None
+-- how far each occurrence in a table is from the one before
+abbrev pub step : ℕ
+step = out_start (out.Error 1) - out_start (out.Error 0)
+
+-- an occurrence of an item, numbered from 1; none if the table has no such number
+abbrev pub occurrence : ℕ → ItemPlace → ℕ → Option ItemPlace
+occurrence occurs place n =
+    if nat_le 1 n
+    && nat_le n occurs then Some (record place { start = place.start + step * (n - 1) }) else None

@@ -8,5 +8,6 @@ pub mod Follows
 pub mod Laws
 pub mod Names
 pub mod Ranges
+pub mod Checked
 pub mod Sources
 pub mod Sound

@@ -1,99 +1,118 @@
 -- The pass ranges: which paragraphs PERFORM and GO may name.
-use Rattle.std.specs.Prelude.{ℕ, zero, suc, Bool, ◌&&◌, ◌||◌, not, nat_le, List, [], ◌∷◌, ◌++◌, length, Option}
-use Rattle.std.specs.List.{filter, flat_map, list_all, list_any}
+use Rattle.std.specs.Prelude.{◌≡◌, ◌≤◌, ◌<◌, ℕ, suc, false, List, [], ◌∷◌, ◌++◌, Contains, flat_map, Option}
 use Rattle.cob_lex.specs.declared.fault.SourceFault.{SourceFault}
 use Rattle.cob_lex.specs.declared.fault.SourceKind.TheVariants as faults
 use Rattle.cob_forms.specs.declared.written.Name.{Name}
-use Rattle.cob_proc.specs.declared.tree.Paragraph.{Paragraph}
-use Rattle.cob_proc.specs.declared.tree.Statement.{Statement, If', Perform, Go, Receive', Row_of-Statement, end_of-Statement, more_of-Statement}
-use Rattle.cob_meaning.specs.Meaning.{last_of, paragraph_number, statements_of}
-use Rattle.cob_meaning.specs.Names.{wants}
+use Rattle.cob_forms.specs.Faults.{is_before}
+use Rattle.cob_proc.specs.Trees.{Plain, performs, goes, Tree, plain, branches, receives, Block, none, lead, ParagraphTree}
+use Rattle.cob_meaning.specs.Meaning.{last_of, paragraph_number}
+use Rattle.cob_meaning.specs.Names.{fault_at}
 
--- a PERFORM as it is written, or a GO, and the number of the paragraph in which it stands
+-- a PERFORM: the number of the paragraph in which it is, and the names of its range as they are
+-- written
 pub record Performing : Type 0 where
   pub from : ℕ
   pub first : Name
   pub last : Option Name
 
+-- a GO: the number of the paragraph in which it is, and its target
 pub record Going : Type 0 where
   pub from : ℕ
   pub target : Name
 
--- the PERFORMs of statements, and the GOs
+-- the PERFORMs and the GOs of a paragraph with a number
 module _ (k : ℕ) where
-  abbrev mutual
-    pub performs_in : Statement → List Performing
-    performs_in (Perform first last often) = record { from = k; first = first; last = last } ∷ []
-    performs_in (If' position condition _ one _ other) = all_performs one ++ all_performs other
-    performs_in (Receive' cd segment into _ no_data) = all_performs no_data
-    performs_in _ = []
-
-    pub all_performs : {m : _} → Row_of-Statement m → List Performing
-    all_performs end_of-Statement = []
-    all_performs (more_of-Statement one others) = performs_in one ++ all_performs others
+  -- PERFORM
+  abbrev pub plain_performs : Plain → List Performing
+  plain_performs (performs first last often) = record { from = k; first = first; last = last } ∷ []
+  plain_performs _ = []
 
   abbrev mutual
-    pub goes_in : Statement → List Going
-    goes_in (Go target) = record { from = k; target = target } ∷ []
-    goes_in (If' position condition _ one _ other) = all_goes one ++ all_goes other
-    goes_in (Receive' cd segment into _ no_data) = all_goes no_data
-    goes_in _ = []
+    -- the PERFORMs in a statement
+    pub performs_in : Tree → List Performing
+    performs_in (plain statement) = plain_performs statement
+    performs_in (branches position condition one other) = all_performs one ++ all_performs other
+    performs_in (receives cd segment into no_data) = all_performs no_data
 
-    pub all_goes : {m : _} → Row_of-Statement m → List Going
-    all_goes end_of-Statement = []
-    all_goes (more_of-Statement one others) = goes_in one ++ all_goes others
+    -- the PERFORMs in statements
+    pub all_performs : Block → List Performing
+    all_performs none = []
+    all_performs (lead statement others) = performs_in statement ++ all_performs others
 
--- those of the paragraphs from a number on
-abbrev pub performs_from : ℕ → List Paragraph → List Performing
+  -- GO
+  abbrev pub plain_goes : Plain → List Going
+  plain_goes (goes target) = record { from = k; target = target } ∷ []
+  plain_goes _ = []
+
+  abbrev mutual
+    -- the GOs in a statement
+    pub goes_in : Tree → List Going
+    goes_in (plain statement) = plain_goes statement
+    goes_in (branches position condition one other) = all_goes one ++ all_goes other
+    goes_in (receives cd segment into no_data) = all_goes no_data
+
+    -- the GOs in statements
+    pub all_goes : Block → List Going
+    all_goes none = []
+    all_goes (lead statement others) = goes_in statement ++ all_goes others
+
+-- the PERFORMs of paragraphs, of which the first has this number
+abbrev pub performs_from : ℕ → List ParagraphTree → List Performing
 performs_from k [] = []
-performs_from k (paragraph ∷ others) = flat_map (performs_in k) (statements_of paragraph) ++ performs_from (suc k) others
+performs_from k (paragraph ∷ others) =
+    flat_map (all_performs k) paragraph.sentences ++ performs_from (suc k) others
 
-abbrev pub goes_from : ℕ → List Paragraph → List Going
+-- the GOs of paragraphs, of which the first has this number
+abbrev pub goes_from : ℕ → List ParagraphTree → List Going
 goes_from k [] = []
-goes_from k (paragraph ∷ others) = flat_map (goes_in k) (statements_of paragraph) ++ goes_from (suc k) others
+goes_from k (paragraph ∷ others) =
+    flat_map (all_goes k) paragraph.sentences ++ goes_from (suc k) others
 
--- a range, by the numbers of its first and last paragraph; one that ends before it begins has no paragraph
+-- a range, by the numbers of its first and last paragraph
 pub record Range : Type 0 where
   pub first : ℕ
   pub last : ℕ
 
-abbrev pub range_of : List Paragraph → Performing → Range
-range_of text p = record { first = paragraph_number text p.first; last = paragraph_number text (last_of p.first p.last) }
+-- a range has the paragraphs from its first to its last; one that ends before it begins has none
+pub record IsIn (range : Range) (k : ℕ) : Type 0 where
+  pub from_first : range.first ≤ k
+  pub to_last : k ≤ range.last
 
-abbrev pub is_in : Range → ℕ → Bool
-is_in range k = nat_le range.first k && nat_le k range.last
+module _ (text : List ParagraphTree) where
+  -- the range of a PERFORM
+  abbrev pub range_of : Performing → Range
+  range_of p = record {
+    first = paragraph_number text p.first;
+    last = paragraph_number text (last_of p.first p.last);
+  }
 
--- a THRU whose end comes before its begin is wrong at the end
-abbrev pub backward_faults : List Paragraph → Performing → List SourceFault
-backward_faults text p =
-    wants (nat_le (range_of text p).first (range_of text p).last) (last_of p.first p.last).position faults.LeavesRange
+  -- a PERFORM of the text
+  abbrev pub IsPerformed : Performing → Type 0
+  IsPerformed p = Contains (performs_from 0 text) p
 
--- a GO stays in each range that its paragraph is in
-abbrev pub stays_in : ℕ → ℕ → Range → Bool
-stays_in from to range = not (is_in range from) || is_in range to
+  -- A range reaches the paragraphs in it, and those in each range that a paragraph that it reaches
+  -- performs.
+  pub data Reaches (range : Range) : ℕ → Type 0 where
+    directly : {k : ℕ} → IsIn range k → Reaches range k
+    through : {k : ℕ} (p : Performing) → IsPerformed p → Reaches range p.from → IsIn (range_of p) k
+        → Reaches range k
 
-abbrev pub leaving_faults : List Paragraph → List Performing → Going → List SourceFault
-leaving_faults text performs going =
-    wants (list_all (λ p. stays_in going.from (paragraph_number text going.target) (range_of text p)) performs) going.target.position faults.LeavesRange
+  -- The faults of ranges. A PERFORM whose THRU ends before it begins has no range, and so no other
+  -- fault.
+  pub data IsRangesFault : SourceFault → Type 0 where
+    -- a THRU that ends before it begins, at its end
+    backward : (p : Performing) → IsPerformed p → (range_of p).last < (range_of p).first
+        → IsRangesFault (fault_at (last_of p.first p.last).position faults.LeavesRange)
+    -- a GO out of a range that its paragraph is in, at its target
+    leaves : (going : Going) (p : Performing) → Contains (goes_from 0 text) going → IsPerformed p
+        → IsIn (range_of p) going.from
+        → (IsIn (range_of p) (paragraph_number text going.target) → ⊥)
+        → IsRangesFault (fault_at going.target.position faults.LeavesRange)
+    -- a PERFORM whose range reaches its own paragraph, at the name of its first
+    circles : (p : Performing) → IsPerformed p → Reaches (range_of p) p.from
+        → IsRangesFault (fault_at p.first.position faults.PerformsItself)
 
--- Whether a range leads to a paragraph: it is in the range, or a range that one of its paragraphs performs
--- leads there, over so many PERFORMs or fewer.
-abbrev pub leads : ℕ → List Paragraph → List Performing → Range → ℕ → Bool
-leads zero text performs range to = is_in range to
-leads (suc n) text performs range to =
-    is_in range to
-    || list_any (λ p. leads n text performs (range_of text p) to) (filter (λ p. is_in range p.from) performs)
-
--- a PERFORM whose range leads back to its own paragraph
-abbrev pub circle_faults : List Paragraph → List Performing → Performing → List SourceFault
-circle_faults text performs p =
-    wants (not (leads (length performs) text performs (range_of text p) p.from)) p.first.position faults.PerformsItself
-
-abbrev pub ranges_faults_by : List Paragraph → List Performing → List SourceFault
-ranges_faults_by text performs =
-    flat_map (backward_faults text) performs ++ flat_map (leaving_faults text performs) (goes_from 0 text)
-    ++ flat_map (circle_faults text performs) performs
-
--- the faults of ranges
-abbrev pub ranges_faults : List Paragraph → List SourceFault
-ranges_faults text = ranges_faults_by text (performs_from 0 text)
+-- the first of some faults, by place and then by kind
+pub record IsFirstOf (IsFault : SourceFault → Type 0) (fault : SourceFault) : Type 0 where
+  pub is_fault : IsFault fault
+  pub none_before : (other : SourceFault) → IsFault other → is_before other fault ≡ false

@@ -1,99 +1,96 @@
 -- Which program a source is, and which fault it has.
-use Rattle.std.specs.Prelude.{◌≡◌, ◌⊎◌, ℕ, ◌-◌, List, map, length, drop, Option, Some, None, Result, Ok, Err}
+use Rattle.std.specs.Prelude.{◌≡◌, ◌⊎◌, ◌≤◌, ◌<◌, ℕ, ◌-◌, List, length, drop, Option, Some, None, Result, Ok, Err}
 use Rattle.std.specs.Option.{option_or}
 use Rattle.cob_lex.specs.declared.fault.SourceFault.{SourceFault}
+use Rattle.cob_lex.specs.declared.fault.SourceKind.TheVariants as faults
+use Rattle.cob_lex.specs.declared.lexer.TheConstants.{MAX_SOURCE}
 use Rattle.cob_lex.specs.declared.token.Token.{Token}
 use Rattle.cob_lex.specs.Lexing.{tokens_of}
 use Rattle.cob_forms.specs.Forms.{reading}
-use Rattle.cob_forms.specs.Faults.{counting, first}
+use Rattle.cob_forms.specs.Faults.{counting, fault, first}
 use Rattle.cob_data.specs.declared.tree.DataDivision.{DataDivision}
-use Rattle.cob_data.specs.declared.tree.ItemSort.{ItemSort}
-use Rattle.cob_data.specs.declared.tree.ItemSort.TheVariants as sorts
 use Rattle.cob_data.specs.Divisions.{IsDivisionOf}
 use Rattle.cob_data.specs.Faults.{data_fault}
 use Rattle.cob_data.specs.Forms.{data_division, alternatives_of}
-use Rattle.cob_data.specs.Layout.{Referent, data_at, declared, initial_area, input_cd, opening_storage, output_cd}
+use Rattle.cob_data.specs.Layout.{declared, initial_area, opening_storage}
 use Rattle.cob_proc.specs.Faults.{procedure_fault}
 use Rattle.cob_proc.specs.Spelled.{IsProcedure}
-use Rattle.cob_proc.specs.Trees.{paragraph_tree}
-use Rattle.cob_meaning.specs.Layouts.{Holding, of_characters, of_digits, of_items, Layout, Meant, an_item, an_input, an_output}
+use Rattle.cob_meaning.specs.Layouts.{Layout}
 use Rattle.cob_meaning.specs.Meaning.{Program}
 use Rattle.cob_meaning.specs.Names.{names_faults}
-use Rattle.cob_meaning.specs.Ranges.{ranges_faults}
+use Rattle.cob_meaning.specs.Ranges.{IsFirstOf, IsRangesFault}
 
--- THE LAYOUT
-
-abbrev pub holding_of : ItemSort → Holding
-holding_of sorts.Characters = of_characters
-holding_of sorts.Digits = of_digits
-holding_of sorts.Group = of_items
-
-abbrev pub meant_by : Referent → Meant
-meant_by (data_at place occurs) =
-    an_item (record { area = place.area; start = place.start; width = place.length; holding = holding_of place.sort; occurs = occurs })
-meant_by (input_cd area) = an_input area
-meant_by (output_cd area occurrences) = an_output area
-
--- the names of the divisions with what they mean, and their areas as they begin
+-- what the divisions before the Procedure Division say of names and areas
 abbrev pub layout_of : DataDivision → Layout
-layout_of d = record {
-  names = map (λ x. (x.0, meant_by x.1)) (declared d);
-  opening = opening_storage d;
-  initial = initial_area d;
-}
+layout_of d = record { names = declared d; opening = opening_storage d; initial = initial_area d }
 
--- THE PROGRAM
+-- THE PASSES
 
--- The tokens from the word PROCEDURE on, where reading the divisions comes to it: it is the last token that was
--- read.
+-- The tokens from the word PROCEDURE on, if reading the divisions comes to it: it is the last token
+-- that was read.
 abbrev pub from_procedure : List Token → List Token
 from_procedure ts = drop (length (counting ts (reading alternatives_of data_division ts)) - 1) ts
 
--- The passes over tokens are the data pass and the procedure pass. The first one that finds a fault tells its
--- first.
+-- the fault that the passes over tokens report: that of the data pass, and else that of the
+-- procedure pass
 abbrev pub tokens_fault : List Token → Option SourceFault
 tokens_fault ts = option_or (data_fault ts) (procedure_fault (from_procedure ts))
 
--- tokens without a fault spell a program: those before the word PROCEDURE its layout, and those from it on its
--- paragraphs
+-- the same, of what a source is read as by its first pass
+abbrev pub text_fault_by : Result (List Token) SourceFault → Option SourceFault
+text_fault_by (Err fault) = Some fault
+text_fault_by (Ok ts) = tokens_fault ts
+
+-- the fault that the passes over the text of a source report
+abbrev pub text_fault : List ℕ → Option SourceFault
+text_fault source = text_fault_by (tokens_of source)
+
+-- Tokens without a fault spell a program: those before the word PROCEDURE its layout, and those
+-- from it on its paragraphs.
 pub record Spells (ts : List Token) (program : Program) : Type 0 where
   pub no_fault : tokens_fault ts ≡ None
   pub place : ℕ
   pub division : DataDivision
   pub is_division : IsDivisionOf ts place division
-  pub is_procedure : IsProcedure (map paragraph_tree program.text) (drop place ts)
+  pub is_procedure : IsProcedure program.text (drop place ts)
   pub layout : program.layout ≡ layout_of division
 
--- the passes over trees: names and kinds, and ranges
-abbrev pub trees_fault : Program → Option SourceFault
-trees_fault program = option_or (first (names_faults program)) (first (ranges_faults program.text))
+-- the fault that the passes over trees report: that of names and kinds, and else that of ranges
+abbrev pub IsTreesFaultOf : Program → SourceFault → Type 0
+IsTreesFaultOf program fault =
+    (first (names_faults program) ≡ Some fault)
+    ⊎ ((first (names_faults program) ≡ None) × IsFirstOf (IsRangesFault program.text) fault)
 
--- a source is a program where its tokens spell it, and it has no fault
+-- the passes over trees find no fault
+pub record HasNoTreesFault (program : Program) : Type 0 where
+  pub names : first (names_faults program) ≡ None
+  pub ranges : (fault : SourceFault) → IsRangesFault program.text fault → ⊥
+
+-- THE PROGRAM
+
+-- a source is a program if it is not too long, its tokens spell the program, and the program has no
+-- fault
 pub record IsProgramOf (source : List ℕ) (program : Program) : Type 0 where
+  pub few : length source ≤ MAX_SOURCE
   pub tokens : List Token
   pub are_tokens : tokens_of source ≡ Ok tokens
   pub spells : Spells tokens program
-  pub no_fault : trees_fault program ≡ None
+  pub no_fault : HasNoTreesFault program
 
 -- THE FAULT
 
-abbrev pub text_fault_by : Result (List Token) SourceFault → Option SourceFault
-text_fault_by (Err fault) = Some fault
-text_fault_by (Ok ts) = tokens_fault ts
+-- The fault of a source. Its length comes first, and then the passes lex, data, procedure, names
+-- and kinds, and ranges. The first of them that finds a fault reports its first.
+pub data IsSourceFaultOf (source : List ℕ) : SourceFault → Type 0 where
+  of_length : MAX_SOURCE < length source → IsSourceFaultOf source (fault 1 1 faults.OverLimit)
+  of_text : {found : SourceFault} → length source ≤ MAX_SOURCE → text_fault source ≡ Some found
+      → IsSourceFaultOf source found
+  of_trees : {found : SourceFault} (tokens : List Token) (program : Program)
+      → length source ≤ MAX_SOURCE
+      → tokens_of source ≡ Ok tokens → Spells tokens program → IsTreesFaultOf program found
+      → IsSourceFaultOf source found
 
--- what the passes before names and kinds find
-abbrev pub text_fault : List ℕ → Option SourceFault
-text_fault source = text_fault_by (tokens_of source)
-
--- what the passes over trees find in a source that has no fault before
-pub record HasTreesFault (source : List ℕ) (fault : SourceFault) : Type 0 where
-  pub tokens : List Token
-  pub program : Program
-  pub are_tokens : tokens_of source ≡ Ok tokens
-  pub spells : Spells tokens program
-  pub is_found : trees_fault program ≡ Some fault
-
--- The passes are lex, data, procedure, names and kinds, and ranges. The first of them that finds a fault tells
--- its first.
-abbrev pub IsSourceFaultOf : List ℕ → SourceFault → Type 0
-IsSourceFaultOf source fault = (text_fault source ≡ Some fault) ⊎ HasTreesFault source fault
+-- what a source is read as: its program, or its fault
+abbrev pub IsReadAs : List ℕ → Result Program SourceFault → Type 0
+IsReadAs source (Ok program) = IsProgramOf source program
+IsReadAs source (Err fault) = IsSourceFaultOf source fault

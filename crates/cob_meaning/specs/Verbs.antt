@@ -20,17 +20,19 @@ use Rattle.cob_proc.specs.declared.tree.Key.{Key}
 use Rattle.cob_proc.specs.declared.tree.Key.TheVariants as key
 use Rattle.cob_proc.specs.declared.tree.Lines.{Lines}
 use Rattle.cob_proc.specs.declared.tree.Lines.TheVariants as lines
-use Rattle.cob_meaning.specs.Layouts.{◌>>=◌, Item, Layout, cd_of}
-use Rattle.cob_meaning.specs.Storage.{Storage, area_in, with_area, held_by, with_front}
+use Rattle.cob_data.specs.declared.tree.ItemPlace.{ItemPlace}
+use Rattle.cob_meaning.specs.Layouts.{◌>>=◌, Layout, cd_of}
+use Rattle.cob_meaning.specs.Storage.{Storage, area_in, with_area, held_by, with_prefix}
 use Rattle.cob_meaning.specs.Moves.{addend_number, item_at}
 
--- A call that a verb makes, the area of its CD, and the item of INTO, which is found before the call.
+-- A call that a verb makes, the area of its CD, and the item of INTO, which is found before the
+-- call.
 pub record Request : Type 0 where
   pub call : Call
   pub area : ℕ
-  pub into : Option Item
+  pub into : Option ItemPlace
 
--- The functions below give none where the unit stops for DATA before its call.
+-- The functions below give none if the unit stops for DATA before its call.
 
 -- RECEIVE asks for as many characters as the item of INTO has
 abbrev pub receive : Layout → Name → Bool → Identifier → Bool → Storage → Option Request
@@ -38,9 +40,13 @@ receive layout cd segment into no_data storage = do
   area ← cd_of layout cd
   item ← item_at layout into storage
   let received = if segment then kind.Segment else kind.Message
-  Some (record { call = call.Receive (area_in storage area) received item.width no_data; area = area; into = Some item })
+  Some (record {
+    call = call.Receive (area_in storage area) received item.length no_data;
+    area = area;
+    into = Some item;
+  })
 
--- the characters of what is sent, where there is anything
+-- the characters that are sent, if there is an item after FROM
 abbrev pub sent_text : Layout → Option Identifier → Storage → Option (Option (List ℕ))
 sent_text layout None storage = Some None
 sent_text layout (Some from) storage = do
@@ -51,7 +57,7 @@ sent_text layout (Some from) storage = do
 abbrev pub some_lines : ℕ → Option ℕ
 some_lines n = if nat_le n MAX_LINES then Some n else None
 
--- how the text is advanced: after one line where nothing is said
+-- how a text is advanced by lines or to a page
 abbrev pub advance_by : Layout → Bool → Lines → Storage → Option Advance
 advance_by layout after (lines.Count counted) storage = do
   n ← addend_number layout counted storage
@@ -59,22 +65,25 @@ advance_by layout after (lines.Count counted) storage = do
   Some (if after then After m else Before m)
 advance_by layout after lines.Page storage = Some (if after then AfterPage else BeforePage)
 
+-- how a text is advanced: after one line if nothing is written
 abbrev pub advance_of : Layout → Option Advancing → Storage → Option Advance
 advance_of layout None storage = Some (After 1)
-advance_of layout (Some advancing) storage = advance_by layout advancing.after advancing.lines storage
+advance_of layout (Some advancing) storage =
+    advance_by layout advancing.after advancing.lines storage
 
--- what the character of an item says: 1 is ESI, 2 is EMI, 3 is EGI
+-- the end that an item's character indicates: 1 is ESI, 2 is EMI, 3 is EGI
 abbrev pub indicated : List ℕ → Option (Advance → Part)
 indicated character =
     if bytes_eq character (codes "1") then Some part.Esi
     else (if bytes_eq character (codes "2") then Some part.Emi
     else (if bytes_eq character (codes "3") then Some part.Egi else None))
 
--- ADVANCING is read only where a segment ends
+-- what a SEND ends; ADVANCING is read only where a segment ends
 abbrev pub part_by : Layout → Option (Advance → Part) → Option Advancing → Storage → Option Part
 part_by layout None advancing storage = Some part.Portion
 part_by layout (Some end) advancing storage = option_map end (advance_of layout advancing storage)
 
+-- what a SEND ends with this indicator
 abbrev pub part_with : Layout → Indicator → Option Advancing → Storage → Option Part
 part_with layout (indicator.Item identifier) advancing storage = do
   item ← item_at layout identifier storage
@@ -83,11 +92,12 @@ part_with layout indicator.Esi advancing storage = part_by layout (Some part.Esi
 part_with layout indicator.Emi advancing storage = part_by layout (Some part.Emi) advancing storage
 part_with layout indicator.Egi advancing storage = part_by layout (Some part.Egi) advancing storage
 
--- what a SEND ends: nothing where no end is written
+-- what a SEND ends: nothing if no end is written
 abbrev pub part_of : Layout → Option Ending → Storage → Option Part
 part_of layout None storage = Some part.Portion
 part_of layout (Some ending) storage = part_with layout ending.indicator ending.advancing storage
 
+-- SEND
 abbrev pub send : Layout → Name → Option Identifier → Option Ending → Storage → Option Request
 send layout cd from ending storage = do
   area ← cd_of layout cd
@@ -95,31 +105,42 @@ send layout cd from ending storage = do
   ended ← part_of layout ending storage
   Some (record { call = call.Send (area_in storage area) ended text; area = area; into = None })
 
--- the characters of a key, as the item or the literal stands
+-- the characters of a key, as the item holds them or the literal is written
 abbrev pub key_characters : Layout → Key → Storage → Option (List ℕ)
 key_characters layout (key.Item identifier) storage = do
   item ← item_at layout identifier storage
   Some (held_by item storage)
 key_characters layout (key.Literal literal) storage = Some literal.characters
 
+-- ENABLE and DISABLE INPUT
 abbrev pub switch_input : Layout → Bool → Bool → Name → Key → Storage → Option Request
 switch_input layout on terminal cd password storage = do
   area ← cd_of layout cd
   characters ← key_characters layout password storage
-  Some (record { call = call.SwitchInput on terminal (area_in storage area) characters; area = area; into = None })
+  Some (record {
+    call = call.SwitchInput on terminal (area_in storage area) characters;
+    area = area;
+    into = None;
+  })
 
+-- ENABLE and DISABLE OUTPUT
 abbrev pub switch_output : Layout → Bool → Name → Key → Storage → Option Request
 switch_output layout on cd password storage = do
   area ← cd_of layout cd
   characters ← key_characters layout password storage
-  Some (record { call = call.SwitchOutput on (area_in storage area) characters; area = area; into = None })
+  Some (record {
+    call = call.SwitchOutput on (area_in storage area) characters;
+    area = area;
+    into = None;
+  })
 
+-- ACCEPT MESSAGE COUNT
 abbrev pub accept : Layout → Name → Storage → Option Request
 accept layout cd storage = do
   area ← cd_of layout cd
   Some (record { call = call.Count (area_in storage area); area = area; into = None })
 
--- the area that a reply has
+-- the area that a reply brings
 abbrev pub area_after : Reply → Option (List ℕ)
 area_after (Given area text) = Some area
 area_after (NoData area) = Some area
@@ -128,14 +149,17 @@ area_after (AreaIn area) = Some area
 area_after (AreaOut area) = Some area
 area_after _ = None
 
--- the storage when a reply has come: first the area, and then the text, from the left end of the item
+-- the storage with the area that a reply brings
 abbrev pub with_reply_area : ℕ → Option (List ℕ) → Storage → Storage
 with_reply_area area None storage = storage
 with_reply_area area (Some after) storage = with_area area after storage
 
-abbrev pub with_text : Option Item → Reply → Storage → Storage
-with_text (Some item) (Given area text) storage = with_front item text storage
+-- the storage with the text that a reply brings, from the left end of the item of INTO
+abbrev pub with_text : Option ItemPlace → Reply → Storage → Storage
+with_text (Some item) (Given area text) storage = with_prefix item text storage
 with_text _ _ storage = storage
 
+-- the storage after a reply: first its area is placed, and then its text
 abbrev pub with_reply : Request → Reply → Storage → Storage
-with_reply request reply storage = with_text request.into reply (with_reply_area request.area (area_after reply) storage)
+with_reply request reply storage =
+    with_text request.into reply (with_reply_area request.area (area_after reply) storage)
