@@ -4,6 +4,7 @@ use Rattle.std.specs.Prelude.{cond, if◌then◌else◌, nat_le}
 use Rattle.std.specs.List.{list_all}
 use Rattle.std.proofs.lemmas.List.Folds.{list_all-append}
 use Rattle.com_cd.specs.declared.output_area.TheConstants.{MAX_OCCURRENCES}
+use Rattle.com_cd.specs.declared.output_area.OutField.{OutField}
 use Rattle.cob_lex.specs.declared.fault.SourceFault.{SourceFault}
 use Rattle.cob_lex.specs.declared.fault.SourceKind.TheVariants as faults
 use Rattle.cob_lex.specs.declared.token.Token.{Token}
@@ -12,7 +13,7 @@ use Rattle.cob_forms.specs.Sorts.{is, of_kind, reserved}
 use Rattle.cob_forms.specs.Faults.{earlier, first, is_before}
 use Rattle.cob_forms.specs.Forms.{ends}
 use Rattle.cob_data.specs.declared.tree.DataDivision.{DataDivision}
-use Rattle.cob_data.specs.Clauses.{OutputField, destination_count, text_length, status_key, destination_table, error_key, destination, all_clauses, body_of, clauses_of, ends_clause, is_input, lists_names, number_in, output_field_of}
+use Rattle.cob_data.specs.Clauses.{all_clauses, body_of, clauses_of, ends_clause, is_input, lists_names, number_in, output_field_of}
 use Rattle.cob_data.specs.Divisions.{IsDivisionOf, body_by, cd_named, cds_from, output_clause, output_clause_by, output_clauses, storage_records}
 use Rattle.cob_data.specs.Entries.{Run, behind, cd_runs, described, ends_entry, entries_of, first_token, gathered, is_cd, is_item, last_token, parted, pieces, put, runs_of, second_token, told, wants_word}
 use Rattle.cob_data.specs.Faults.{Limits, at_any, bad_tables, data_fault, data_faults, faults_by, limits, other_faults}
@@ -77,16 +78,12 @@ number_within (x ∷ xs) t found good = number_by (is (of_kind tokens.Number) x)
 
 -- CLAUSES
 
-clause_right : (field : OutputField) (first named : Token) (occurs : Option Token) → ((t : Token) → occurs ≡ Some t → within t ≡ true) → list_all is_table_right (output_clause_by field first named occurs) ≡ true
-clause_right destination_count first named occurs h = refl
-clause_right text_length first named occurs h = refl
-clause_right status_key first named occurs h = refl
-clause_right destination_table first named (Some t) h = joined (within t) true (h t refl) refl
-clause_right destination_table first named None h = refl
-clause_right error_key first named occurs h = refl
-clause_right destination first named occurs h = refl
+clause_right : (field : Option OutField) (first named : Token) (occurs : Option Token) → ((t : Token) → occurs ≡ Some t → within t ≡ true) → list_all is_table_right (output_clause_by field first named occurs) ≡ true
+clause_right (Some field) first named occurs h = refl
+clause_right None first named (Some t) h = joined (within t) true (h t refl) refl
+clause_right None first named None h = refl
 
-told_right : (field : Option OutputField) (first named occurs : Option Token) → ((t : Token) → occurs ≡ Some t → within t ≡ true) → list_all is_table_right (output_clause field first named occurs) ≡ true
+told_right : (field : Option (Option OutField)) (first named occurs : Option Token) → ((t : Token) → occurs ≡ Some t → within t ≡ true) → list_all is_table_right (output_clause field first named occurs) ≡ true
 told_right (Some field) (Some first) (Some named) occurs h = clause_right field first named occurs h
 told_right (Some field) (Some first) None occurs h = refl
 told_right (Some field) None named occurs h = refl

@@ -5,8 +5,10 @@ use Rattle.cob_lex.specs.declared.token.Token.{Token}
 use Rattle.cob_lex.specs.declared.token.TokenKind.TheVariants as tokens
 use Rattle.cob_forms.specs.Sorts.{reserved, name, of_kind, is}
 use Rattle.cob_forms.specs.Readers.{begins}
-use Rattle.cob_data.specs.declared.tree.InputField.{InputField}
-use Rattle.cob_data.specs.declared.tree.InputField.TheVariants as fields
+use Rattle.com_cd.specs.declared.input_area.InField.{InField}
+use Rattle.com_cd.specs.declared.input_area.InField.TheVariants as cd
+use Rattle.com_cd.specs.declared.output_area.OutField.{OutField}
+use Rattle.com_cd.specs.declared.output_area.OutField.TheVariants as out
 use Rattle.cob_data.specs.Entries.{pieces, all_but_last, has, behind}
 
 abbrev pub is_input : List Token → Bool
@@ -36,32 +38,32 @@ all_clauses body = all_but_last (pieces ends_clause body)
 abbrev pub clauses_of : List Token → List (List Token)
 clauses_of entry = if lists_names (body_of entry) then [] else all_clauses (body_of entry)
 
--- The words by which the fields of an input CD are told apart, and those of an output CD. The first of them
--- that stands in a clause is the clause's.
-abbrev pub input_words : List (List ℕ × InputField)
+-- The words by which the clauses of an input CD are told apart. The first of them that stands in a clause is the
+-- clause's.
+abbrev pub input_words : List (List ℕ × InField)
 input_words =
-    (codes "QUEUE", fields.Queue) ∷ (codes "SUB-QUEUE-1", fields.SubQueue1) ∷ (codes "SUB-QUEUE-2", fields.SubQueue2)
-    ∷ (codes "SUB-QUEUE-3", fields.SubQueue3) ∷ (codes "DATE", fields.MessageDate) ∷ (codes "TIME", fields.MessageTime)
-    ∷ (codes "SOURCE", fields.Source) ∷ (codes "LENGTH", fields.TextLength) ∷ (codes "END", fields.EndKey)
-    ∷ (codes "STATUS", fields.StatusKey) ∷ (codes "COUNT", fields.MessageCount) ∷ []
+    (codes "QUEUE", cd.Queue) ∷ (codes "SUB-QUEUE-1", cd.Sub1) ∷ (codes "SUB-QUEUE-2", cd.Sub2)
+    ∷ (codes "SUB-QUEUE-3", cd.Sub3) ∷ (codes "DATE", cd.Date) ∷ (codes "TIME", cd.Time)
+    ∷ (codes "SOURCE", cd.Source) ∷ (codes "LENGTH", cd.Length) ∷ (codes "END", cd.EndKey)
+    ∷ (codes "STATUS", cd.Status) ∷ (codes "COUNT", cd.Count) ∷ []
 
-pub data OutputField : Type 0 where
-  destination_count text_length status_key destination_table error_key destination : OutputField
-
-abbrev pub output_words : List (List ℕ × OutputField)
+-- Those of an output CD, with None for the clause of its table. The names for ERROR KEY and for SYMBOLIC
+-- DESTINATION are those of the first occurrence.
+abbrev pub output_words : List (List ℕ × Option OutField)
 output_words =
-    (codes "COUNT", destination_count) ∷ (codes "LENGTH", text_length) ∷ (codes "STATUS", status_key)
-    ∷ (codes "TABLE", destination_table) ∷ (codes "ERROR", error_key) ∷ (codes "DESTINATION", destination) ∷ []
+    (codes "COUNT", Some out.Count) ∷ (codes "LENGTH", Some out.Length) ∷ (codes "STATUS", Some out.Status)
+    ∷ (codes "TABLE", None) ∷ (codes "ERROR", Some (out.Error 0)) ∷ (codes "DESTINATION", Some (out.Destination 0)) ∷ []
 
 -- the first pair whose word stands in a clause
 abbrev pub told_by : {A : Type 0} → List (List ℕ × A) → List Token → Option (List ℕ × A)
 told_by words clause = find (λ pair. has pair.0 clause) words
 
 -- the field that a clause is for
-unfoldable pub input_field_of : List Token → Option InputField
+unfoldable pub input_field_of : List Token → Option InField
 input_field_of clause = option_map (λ pair. pair.1) (told_by input_words clause)
 
-unfoldable pub output_field_of : List Token → Option OutputField
+-- the field that a clause of an output CD is for, or that it is the table
+unfoldable pub output_field_of : List Token → Option (Option OutField)
 output_field_of clause = option_map (λ pair. pair.1) (told_by output_words clause)
 
 abbrev pub word_of_pair : {A : Type 0} → Option (List ℕ × A) → List ℕ

@@ -1,5 +1,7 @@
 -- What tokens say of a program: its divisions up to the word PROCEDURE.
 use Rattle.std.specs.Prelude.{◌≡◌, ◌<◌, ℕ, ◌+◌, Bool, true, false, ◌||◌, if◌then◌else◌, List, [], ◌∷◌, ◌++◌, length, take, drop, map, filter, find, codes, flat_map, slice_get, Option, Some, None, option_map}
+use Rattle.com_cd.specs.declared.input_area.InField.{InField}
+use Rattle.com_cd.specs.declared.output_area.OutField.{OutField}
 use Rattle.cob_lex.specs.declared.token.Token.{Token}
 use Rattle.cob_lex.specs.declared.token.TokenKind.{TokenKind}
 use Rattle.cob_lex.specs.declared.token.TokenKind.TheVariants as tokens
@@ -13,7 +15,6 @@ use Rattle.cob_data.specs.declared.tree.CdBody.TheVariants as bodies
 use Rattle.cob_data.specs.declared.tree.CdEntry.{CdEntry}
 use Rattle.cob_data.specs.declared.tree.DataDivision.{DataDivision}
 use Rattle.cob_data.specs.declared.tree.InputClause.{InputClause}
-use Rattle.cob_data.specs.declared.tree.InputField.{InputField}
 use Rattle.cob_data.specs.declared.tree.Item.{Item}
 use Rattle.cob_data.specs.declared.tree.OutputClause.{OutputClause}
 use Rattle.cob_data.specs.declared.tree.OutputClause.TheVariants as clauses
@@ -23,7 +24,7 @@ use Rattle.cob_data.specs.declared.tree.Value.{Value}
 use Rattle.cob_data.specs.declared.tree.Value.TheVariants as values
 use Rattle.cob_data.specs.Forms.{data_division, alternatives_of}
 use Rattle.cob_data.specs.Entries.{Run, told, entries_of, runs_of, storage_items, cd_runs, first_token, second_token, last_token, chosen_word, picture_in, value_in}
-use Rattle.cob_data.specs.Clauses.{OutputField, destination_count, text_length, status_key, destination_table, error_key, destination, number_in, is_input, body_of, lists_names, is_name_or_filler, clauses_of, input_field_of, output_field_of}
+use Rattle.cob_data.specs.Clauses.{number_in, is_input, body_of, lists_names, is_name_or_filler, clauses_of, input_field_of, output_field_of}
 use Rattle.cob_data.specs.Levels.{own_size, sort_of_item, length_of, records_of}
 
 -- a name, and none for FILLER
@@ -80,7 +81,7 @@ abbrev pub storage_records : List Run → List (List (List Token))
 storage_records runs = records_of (storage_items runs)
 
 -- the clauses of an input CD, and those of an output CD
-abbrev pub input_clause : Option InputField → Option Token → Option Token → List InputClause
+abbrev pub input_clause : Option InField → Option Token → Option Token → List InputClause
 input_clause (Some field) (Some first) (Some named) =
     record { position = position_of first; field = field; name = name_of named } ∷ []
 input_clause field first named = []
@@ -88,16 +89,12 @@ input_clause field first named = []
 abbrev pub input_clauses : List (List Token) → List InputClause
 input_clauses list = flat_map (λ clause. input_clause (input_field_of clause) (first_token clause) (last_token clause)) list
 
-abbrev pub output_clause_by : OutputField → Token → Token → Option Token → List OutputClause
-output_clause_by destination_count first named occurs = clauses.DestinationCount (position_of first) (name_of named) ∷ []
-output_clause_by text_length first named occurs = clauses.TextLength (position_of first) (name_of named) ∷ []
-output_clause_by status_key first named occurs = clauses.StatusKey (position_of first) (name_of named) ∷ []
-output_clause_by destination_table first named (Some occurs) = clauses.Table (position_of first) (number_of occurs) ∷ []
-output_clause_by destination_table first named None = []
-output_clause_by error_key first named occurs = clauses.ErrorKey (position_of first) (name_of named) ∷ []
-output_clause_by destination first named occurs = clauses.Destination (position_of first) (name_of named) ∷ []
+abbrev pub output_clause_by : Option OutField → Token → Token → Option Token → List OutputClause
+output_clause_by (Some field) first named occurs = clauses.Field (position_of first) field (name_of named) ∷ []
+output_clause_by None first named (Some occurs) = clauses.Table (position_of first) (number_of occurs) ∷ []
+output_clause_by None first named None = []
 
-abbrev pub output_clause : Option OutputField → Option Token → Option Token → Option Token → List OutputClause
+abbrev pub output_clause : Option (Option OutField) → Option Token → Option Token → Option Token → List OutputClause
 output_clause (Some field) (Some first) (Some named) occurs = output_clause_by field first named occurs
 output_clause field first named occurs = []
 

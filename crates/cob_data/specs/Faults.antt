@@ -14,7 +14,7 @@ use Rattle.cob_forms.specs.Faults.{fault, first, wanted_word, counting}
 use Rattle.cob_data.specs.declared.names.TheConstants.{MAX_DATA_NAMES}
 use Rattle.cob_data.specs.declared.characters.TheConstants.{MAX_CHARACTERS}
 use Rattle.cob_data.specs.declared.tree.ItemSort.{ItemSort}
-use Rattle.cob_data.specs.declared.tree.ItemSort.TheVariants.{Characters, Digits}
+use Rattle.cob_data.specs.declared.tree.ItemSort.TheVariants.{Alphanumeric, Numeric}
 use Rattle.cob_data.specs.declared.tree.Value.{Value}
 use Rattle.cob_data.specs.declared.tree.Value.TheVariants as values
 use Rattle.cob_data.specs.Forms.{data_division, alternatives_of}
@@ -152,11 +152,11 @@ up_to limit n = if nat_le n limit then None else Some faults.WrongLength
 
 -- what is wrong with the value of an item of so many characters
 abbrev pub value_kind : ItemSort → ℕ → Value → Option SourceKind
-value_kind Characters n (values.Literal l) = up_to n (length l.characters)
-value_kind Digits n (values.Number k) = up_to n (length k.digits)
-value_kind Characters n (values.Spaces p) = None
-value_kind Characters n (values.Zeros p) = None
-value_kind Digits n (values.Zeros p) = None
+value_kind Alphanumeric n (values.Literal l) = up_to n (length l.characters)
+value_kind Numeric n (values.Number k) = up_to n (length k.digits)
+value_kind Alphanumeric n (values.Spaces p) = None
+value_kind Alphanumeric n (values.Zeros p) = None
+value_kind Numeric n (values.Zeros p) = None
 value_kind sort n other = Some faults.WrongKind
 
 abbrev pub sized_value : Option ℕ → ItemSort → Value → Option SourceKind

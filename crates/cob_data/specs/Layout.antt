@@ -14,11 +14,9 @@ use Rattle.cob_data.specs.declared.tree.CdBody.{CdBody}
 use Rattle.cob_data.specs.declared.tree.CdBody.TheVariants as bodies
 use Rattle.cob_data.specs.declared.tree.CdEntry.{CdEntry}
 use Rattle.cob_data.specs.declared.tree.DataDivision.{DataDivision}
-use Rattle.cob_data.specs.declared.tree.InputField.{InputField}
-use Rattle.cob_data.specs.declared.tree.InputField.TheVariants as fields
 use Rattle.cob_data.specs.declared.tree.Item.{Item}
 use Rattle.cob_data.specs.declared.tree.ItemSort.{ItemSort}
-use Rattle.cob_data.specs.declared.tree.ItemSort.TheVariants.{Characters, Digits, Group}
+use Rattle.cob_data.specs.declared.tree.ItemSort.TheVariants.{Alphanumeric, Numeric, Group}
 use Rattle.cob_data.specs.declared.tree.OutputClause.{OutputClause}
 use Rattle.cob_data.specs.declared.tree.OutputClause.TheVariants as clauses
 use Rattle.cob_data.specs.declared.tree.ItemPlace.{ItemPlace}
@@ -38,44 +36,31 @@ pub data Referent : Type 0 where
 abbrev pub Declared : Type 0
 Declared = List ℕ × Referent
 
--- the field of the area that a name of an input CD is for
-abbrev pub area_field : InputField → InField
-area_field fields.Queue = cd.Queue
-area_field fields.SubQueue1 = cd.Sub1
-area_field fields.SubQueue2 = cd.Sub2
-area_field fields.SubQueue3 = cd.Sub3
-area_field fields.MessageDate = cd.Date
-area_field fields.MessageTime = cd.Time
-area_field fields.Source = cd.Source
-area_field fields.TextLength = cd.Length
-area_field fields.EndKey = cd.EndKey
-area_field fields.StatusKey = cd.Status
-area_field fields.MessageCount = cd.Count
+-- date, time and the two numbers are numeric, and all other fields of an input CD alphanumeric
+abbrev pub input_sort : InField → ItemSort
+input_sort cd.Date = Numeric
+input_sort cd.Time = Numeric
+input_sort cd.Length = Numeric
+input_sort cd.Count = Numeric
+input_sort other = Alphanumeric
 
--- date, time and the two numbers are digits, and all others characters
-abbrev pub field_sort : InputField → ItemSort
-field_sort fields.MessageDate = Digits
-field_sort fields.MessageTime = Digits
-field_sort fields.TextLength = Digits
-field_sort fields.MessageCount = Digits
-field_sort other = Characters
+-- the two numbers are numeric, and all other fields of an output CD alphanumeric
+abbrev pub output_sort : OutField → ItemSort
+output_sort out.Count = Numeric
+output_sort out.Length = Numeric
+output_sort other = Alphanumeric
 
-abbrev pub input_place : ℕ → InputField → ItemPlace
-input_place area field = record {
-  area = area;
-  start = start_of (area_field field);
-  length = width_of (area_field field);
-  sort = field_sort field;
-}
+abbrev pub input_place : ℕ → InField → ItemPlace
+input_place area field = record { area = area; start = start_of field; length = width_of field; sort = input_sort field }
 
-abbrev pub output_place : ℕ → OutField → ItemSort → ItemPlace
-output_place area field sort = record { area = area; start = out_start field; length = out_width field; sort = sort }
+abbrev pub output_place : ℕ → OutField → ItemPlace
+output_place area field = record { area = area; start = out_start field; length = out_width field; sort = output_sort field }
 
 -- the fields of an input CD in the order of its area
-abbrev pub input_fields : List InputField
+abbrev pub input_fields : List InField
 input_fields =
-    fields.Queue ∷ fields.SubQueue1 ∷ fields.SubQueue2 ∷ fields.SubQueue3 ∷ fields.MessageDate ∷ fields.MessageTime
-    ∷ fields.Source ∷ fields.TextLength ∷ fields.EndKey ∷ fields.StatusKey ∷ fields.MessageCount ∷ []
+    cd.Queue ∷ cd.Sub1 ∷ cd.Sub2 ∷ cd.Sub3 ∷ cd.Date ∷ cd.Time ∷ cd.Source ∷ cd.Length ∷ cd.EndKey ∷ cd.Status ∷ cd.Count
+    ∷ []
 
 abbrev pub for_data : Option Name → ItemPlace → Option ℕ → List Declared
 for_data None place occurs = []
@@ -93,14 +78,16 @@ first_number (n ∷ ns) = Some n
 abbrev pub table_of : List OutputClause → Option ℕ
 table_of list = first_number (filter_map table_number list)
 
+-- how often a field of an output CD occurs, by how often its table does: ERROR KEY and SYMBOLIC DESTINATION are in it
+abbrev pub field_occurs : Option ℕ → OutField → Option ℕ
+field_occurs occurs (out.Error at) = occurs
+field_occurs occurs (out.Destination at) = occurs
+field_occurs occurs other = None
+
 -- an output CD's name, by its clause, the area and how often its table occurs
 abbrev pub output_name : ℕ → Option ℕ → OutputClause → List Declared
-output_name area occurs (clauses.DestinationCount position name) = for_data (Some name) (output_place area out.Count Digits) None
-output_name area occurs (clauses.TextLength position name) = for_data (Some name) (output_place area out.Length Digits) None
-output_name area occurs (clauses.StatusKey position name) = for_data (Some name) (output_place area out.Status Characters) None
+output_name area occurs (clauses.Field position field name) = for_data (Some name) (output_place area field) (field_occurs occurs field)
 output_name area occurs (clauses.Table position number) = []
-output_name area occurs (clauses.ErrorKey position name) = for_data (Some name) (output_place area (out.Error 0) Characters) occurs
-output_name area occurs (clauses.Destination position name) = for_data (Some name) (output_place area (out.Destination 0) Characters) occurs
 
 abbrev pub body_names : ℕ → CdBody → List Declared
 body_names area (bodies.Input initial list) = flat_map (λ clause. for_data (Some clause.name) (input_place area clause.field) None) list
@@ -134,8 +121,8 @@ opening_by sort (Some (values.Literal l)) n = l.characters ++ spaces (n - length
 opening_by sort (Some (values.Number k)) n = zeros (n - length k.digits) ++ k.digits
 opening_by sort (Some (values.Spaces p)) n = spaces n
 opening_by sort (Some (values.Zeros p)) n = zeros n
-opening_by Characters None n = spaces n
-opening_by Digits None n = zeros n
+opening_by Alphanumeric None n = spaces n
+opening_by Numeric None n = zeros n
 
 abbrev pub opening_of : Item → List ℕ
 opening_of item = opening_by item.place.sort item.value item.place.length

@@ -3,7 +3,7 @@ use Rattle.std.specs.Prelude.{ℕ, ◌+◌, Bool, true, false, ◌&&◌, ◌||�
 use Rattle.cob_data.specs.Numerals.{numeral}
 use Rattle.cob_lex.specs.declared.token.Token.{Token}
 use Rattle.cob_data.specs.declared.tree.ItemSort.{ItemSort}
-use Rattle.cob_data.specs.declared.tree.ItemSort.TheVariants.{Characters, Digits, Group}
+use Rattle.cob_data.specs.declared.tree.ItemSort.TheVariants.{Alphanumeric, Numeric, Group}
 use Rattle.cob_data.specs.Entries.{picture_in}
 use Rattle.cob_data.specs.Pictures.{size_of, sort_of}
 
@@ -43,8 +43,8 @@ abbrev pub sort_of_item : List Token → ItemSort
 sort_of_item item = sort_by (picture_in item)
 
 abbrev pub is_group : ItemSort → Bool
-is_group Characters = false
-is_group Digits = false
+is_group Alphanumeric = false
+is_group Numeric = false
 is_group Group = true
 
 -- the items behind an item of a rank that are below it

@@ -3,7 +3,7 @@ use Rattle.std.specs.Prelude.{ℕ, zero, suc, ◌+◌, Bool, false, ◌&&◌, �
 use Rattle.com_text.specs.Name.{is_digit}
 use Rattle.com_text.specs.Digits.{number}
 use Rattle.cob_data.specs.declared.tree.ItemSort.{ItemSort}
-use Rattle.cob_data.specs.declared.tree.ItemSort.TheVariants.{Characters, Digits, Group}
+use Rattle.cob_data.specs.declared.tree.ItemSort.TheVariants.{Alphanumeric, Numeric, Group}
 
 abbrev pub begins_with : ℕ → List ℕ → Bool
 begins_with byte [] = false
@@ -31,13 +31,13 @@ characters unit zero (b ∷ bytes) =
 
 -- the most characters of an item of a sort
 abbrev pub most : ItemSort → ℕ
-most Characters = 2000
-most Digits = 18
+most Alphanumeric = 2000
+most Numeric = 18
 most Group = 0
 
 abbrev pub unit_of : ItemSort → ℕ
-unit_of Characters = 88
-unit_of Digits = 57
+unit_of Alphanumeric = 88
+unit_of Numeric = 57
 unit_of Group = 0
 
 abbrev pub within : ItemSort → Option ℕ → Option ℕ
@@ -49,7 +49,7 @@ abbrev pub size_as : ItemSort → List ℕ → Option ℕ
 size_as sort picture = within sort (characters (unit_of sort) 0 picture)
 
 abbrev pub sort_of : List ℕ → ItemSort
-sort_of picture = if begins_with 57 picture then Digits else Characters
+sort_of picture = if begins_with 57 picture then Numeric else Alphanumeric
 
 abbrev pub size_of : List ℕ → Option ℕ
 size_of picture = size_as (sort_of picture) picture

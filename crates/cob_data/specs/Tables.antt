@@ -9,9 +9,6 @@ use Rattle.cob_data.specs.declared.grammar.Form.TheVariants as forms
 use Rattle.cob_data.specs.declared.grammar.Part.{Part as TablePart}
 use Rattle.cob_data.specs.declared.grammar.Part.TheVariants as parts
 use Rattle.cob_data.specs.declared.grammar.Alternative.{Alternative}
-use Rattle.cob_data.specs.declared.cds.OutputField.{OutputField as TableField}
-use Rattle.cob_data.specs.declared.cds.OutputField.TheVariants as fields
-use Rattle.cob_data.specs.Clauses as clauses
 use Rattle.cob_data.specs.Forms as all
 
 abbrev pub sort_of : TableSort → Sort
@@ -57,12 +54,3 @@ parts_of parts = map part_of parts
 
 abbrev pub alternative_of : Alternative → Sort × List (Part all.Form)
 alternative_of alternative = (sort_of alternative.0, parts_of alternative.1.now)
-
--- the fields by which clauses of an output CD are told apart
-abbrev pub kind_of_field : TableField → clauses.OutputField
-kind_of_field fields.DestinationCount = clauses.destination_count
-kind_of_field fields.TextLength = clauses.text_length
-kind_of_field fields.StatusKey = clauses.status_key
-kind_of_field fields.DestinationTable = clauses.destination_table
-kind_of_field fields.ErrorKey = clauses.error_key
-kind_of_field fields.Destination = clauses.destination

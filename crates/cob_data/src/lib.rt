@@ -60,6 +60,6 @@ pub use laws::tokens_have_one_division;
 pub use names::MAX_DATA_NAMES;
 pub use opening::opening_storage;
 pub use tree::{
-    CdBody, CdEntry, DataDivision, InputClause, InputField, Item, ItemPlace, ItemSort,
-    OutputClause, Picture, Value,
+    CdBody, CdEntry, DataDivision, InputClause, Item, ItemPlace, ItemSort, OutputClause, Picture,
+    Value,
 };

@@ -52,8 +52,8 @@ fn put_opening(item: &Item, area: &mut Vec<u8>) -> Result<(), AllocError>
             put_text(literal.characters.as_bytes(), size, area)
         }
         (_, Some(Value::Number(number))) => put_digits(number.digits.as_bytes(), size, area),
-        (_, Some(Value::Spaces(_))) | (ItemSort::Characters, None) => put_many(b' ', size, area),
-        (_, Some(Value::Zeros(_))) | (ItemSort::Digits, None) => put_many(b'0', size, area),
+        (_, Some(Value::Spaces(_))) | (ItemSort::Alphanumeric, None) => put_many(b' ', size, area),
+        (_, Some(Value::Zeros(_))) | (ItemSort::Numeric, None) => put_many(b'0', size, area),
     }
 }
 

@@ -1,6 +1,7 @@
 //! What the divisions before the Procedure Division are made of. Each part of a form is a field, in written
 //! order.
 use cob_forms::{Literal, Name, Number, Position};
+use com_cd::{InField, OutField};
 use com_text::{Rows, Text};
 
 /// The divisions of a program up to the word PROCEDURE, named by the last of them: the program's name, the words of
@@ -40,9 +41,9 @@ pub struct ItemPlace {
 #[derive(Clone, Copy, Debug, PartialEq, Eq)]
 pub enum ItemSort {
     /// A picture of X.
-    Characters,
+    Alphanumeric,
     /// A picture of 9.
-    Digits,
+    Numeric,
     /// No picture.
     Group,
 }
@@ -97,34 +98,22 @@ pub enum CdBody {
 #[derive(Debug, Drop)]
 pub struct InputClause {
     pub position: Position,
-    pub field: InputField,
+    pub field: InField,
     pub name: Name,
-}
-
-/// The fields of an input CD, in the order of its area.
-#[derive(Clone, Copy, Debug, PartialEq, Eq)]
-pub enum InputField {
-    Queue,
-    SubQueue1,
-    SubQueue2,
-    SubQueue3,
-    MessageDate,
-    MessageTime,
-    Source,
-    TextLength,
-    EndKey,
-    StatusKey,
-    MessageCount,
 }
 
 /// A clause of an output CD, with where it begins.
 #[derive(Debug, Drop)]
 pub enum OutputClause {
-    DestinationCount { position: Position, name: Name },
-    TextLength { position: Position, name: Name },
-    StatusKey { position: Position, name: Name },
+    /// The name for a field. ERROR KEY and SYMBOLIC DESTINATION are those of the first occurrence.
+    Field {
+        position: Position,
+        field: OutField,
+        name: Name,
+    },
     /// DESTINATION TABLE OCCURS number TIMES.
-    Table { position: Position, occurs: Number },
-    ErrorKey { position: Position, name: Name },
-    Destination { position: Position, name: Name },
+    Table {
+        position: Position,
+        occurs: Number,
+    },
 }

@@ -29,12 +29,12 @@ fn value_kind(sort: ItemSort, size: u32, value: &Value) -> Option<SourceKind>
     ensures { result ≡ value_kind sort size value.now }
 {
     match (sort, value) {
-        (ItemSort::Characters, Value::Literal(literal)) => {
+        (ItemSort::Alphanumeric, Value::Literal(literal)) => {
             up_to(size, literal.characters.as_bytes().len())
         }
-        (ItemSort::Digits, Value::Number(number)) => up_to(size, number.digits.as_bytes().len()),
-        (ItemSort::Characters, Value::Spaces(_) | Value::Zeros(_)) => None,
-        (ItemSort::Digits, Value::Zeros(_)) => None,
+        (ItemSort::Numeric, Value::Number(number)) => up_to(size, number.digits.as_bytes().len()),
+        (ItemSort::Alphanumeric, Value::Spaces(_) | Value::Zeros(_)) => None,
+        (ItemSort::Numeric, Value::Zeros(_)) => None,
         _ => Some(SourceKind::WrongKind),
     }
 }
