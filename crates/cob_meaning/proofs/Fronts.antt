@@ -9,7 +9,7 @@ use Rattle.com_events.specs.declared.call.Party.{Party}
 use Rattle.com_events.specs.declared.call.StopReason.{StopReason}
 use Rattle.com_events.specs.declared.call.StopReason.TheVariants as reason
 use Rattle.com_events.specs.declared.entry.Entry.{Entry}
-use Rattle.cob_meaning.specs.Follows.{AreVerbs, AsksAgain, ComesBehind, IsRunning, Makes, SoFar, StopsByItself, StopsWaiting, WaitsAtLast, calls_of, is_verb, is_waiting, replies_of, started, stopped, waits}
+use Rattle.cob_meaning.specs.Follows.{AreVerbs, AsksAgain, ComesAfter, IsRunning, Makes, SoFar, StopsByItself, StopsWaiting, WaitsAtLast, calls_of, is_verb, is_waiting, replies_of, started, stopped, waits}
 use Rattle.cob_meaning.specs.Laws.{GoesOn, GoesOnFrom}
 use Rattle.cob_meaning.specs.Meaning.{Ending, Stopped, Wants, Meaning, Program, meaning, unit_limits}
 use Rattle.cob_meaning.proofs.NeverIdle.{NotIdle, never_idle}
@@ -37,7 +37,7 @@ asks_behind : (entry : Entry) (entries : List Entry) → AsksAgain (entry ∷ en
 asks_behind entry [] h = tt
 asks_behind entry (next ∷ entries) h = h.1
 
-asks_there : (before : List Entry) (entry next : Entry) (entries : List Entry) → AsksAgain (before ++ entry ∷ next ∷ entries) → is_waiting entry.reply ≡ true → ComesBehind entry next
+asks_there : (before : List Entry) (entry next : Entry) (entries : List Entry) → AsksAgain (before ++ entry ∷ next ∷ entries) → is_waiting entry.reply ≡ true → ComesAfter entry next
 asks_there [] entry next entries h = h.0
 asks_there (b ∷ before) entry next entries h = asks_there before entry next entries (asks_behind b (before ++ entry ∷ next ∷ entries) h)
 
@@ -108,7 +108,7 @@ module _ (party : Party) (program : Program) (names : Option (List ℕ)) where
           let line : front ++ next ∷ more ≡ before ++ waits party call ∷ next ∷ more = ap (λ l. l ++ next ∷ more) e ∙ append_assoc before (waits party call ∷ []) (next ∷ more) in
           by (asks_there before (waits party call) next more (subst AsksAgain line again) refl)
         where
-          by : ComesBehind (waits party call) next → (does front).ending ≡ Wants call
+          by : ComesAfter (waits party call) next → (does front).ending ≡ Wants call
           by (inl same) = wanted_before front next more h same.1 ∙ ap Wants same.0
           by (inr stop) = absurd (no_stop next.call reason.Idle (first_verb next more (verbs_apart front (next ∷ more) verbs).1) (sym stop))
 
@@ -121,7 +121,7 @@ module _ (party : Party) (program : Program) (names : Option (List ℕ)) where
   last_is_verb verbs before call are e = first_verb (waits party call) [] (verbs_apart before (waits party call ∷ []) (subst AreVerbs e are)).1
 
   -- what comes behind the last verb
-  behind_last : (verbs before : List Entry) (call : Call) (next : Entry) (more : List Entry) → verbs ≡ before ++ waits party call ∷ [] → AsksAgain (verbs ++ next ∷ more) → ComesBehind (waits party call) next
+  behind_last : (verbs before : List Entry) (call : Call) (next : Entry) (more : List Entry) → verbs ≡ before ++ waits party call ∷ [] → AsksAgain (verbs ++ next ∷ more) → ComesAfter (waits party call) next
   behind_last verbs before call next more e again =
       let line : verbs ++ next ∷ more ≡ before ++ waits party call ∷ next ∷ more = ap (λ l. l ++ next ∷ more) e ∙ append_assoc before (waits party call ∷ []) (next ∷ more) in
       asks_there before (waits party call) next more (subst AsksAgain line again) refl
@@ -166,7 +166,7 @@ module _ (party : Party) (program : Program) (names : Option (List ℕ)) (verbs 
           same_reason : calls.Stop r ≡ calls.Stop reason.Idle → r ≡ reason.Idle
           same_reason h = cc
 
-          stop : ComesBehind (waits party call) (stopped party r) → ⊥
+          stop : ComesAfter (waits party call) (stopped party r) → ⊥
           stop (inl h) = no_stop call r (last_is_verb party program names verbs before call are same) h.0
           stop (inr h) = subst NotIdle (makes.comes_to ∙ ap Stopped (same_reason h)) (never_idle unit_limits program names (replies_of verbs))
 
@@ -195,7 +195,7 @@ module _ (party : Party) (program : Program) (names : Option (List ℕ)) (verbs 
       never : (other : Call) (before : List Entry) → verbs ≡ before ++ waits party other ∷ [] → ⊥
       never other before same = stop (behind_last party program names verbs before other (waits party call) (stopped party reason.Idle ∷ []) same again)
         where
-          stop : ComesBehind (waits party other) (waits party call) → ⊥
+          stop : ComesAfter (waits party other) (waits party call) → ⊥
           stop (inl h) = true≢false h.1
           stop (inr h) = no_stop call reason.Idle receives (sym h)
 

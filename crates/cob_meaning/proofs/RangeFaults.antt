@@ -23,10 +23,10 @@ is_in range k = nat_le range.first k && nat_le k range.last
 
 pub is_in_tells : (range : Range) (k : ℕ) → is_in range k ≡ true → IsIn range k
 is_in_tells range k e = let h = and_parts (nat_le range.first k) (nat_le k range.last) e in
-    record { behind_first = grind (arith, nat_tests); up_to_last = grind (arith, nat_tests) }
+    record { from_first = grind (arith, nat_tests); to_last = grind (arith, nat_tests) }
 
 pub is_in_says : (range : Range) (k : ℕ) → IsIn range k → is_in range k ≡ true
-is_in_says range k h = let a = h.behind_first in let b = h.up_to_last in grind (arith, common_steps, nat_tests)
+is_in_says range k h = let a = h.from_first in let b = h.to_last in grind (arith, common_steps, nat_tests)
 
 pub not_in : (range : Range) (k : ℕ) → is_in range k ≡ false → IsIn range k → ⊥
 not_in range k e h = let no : true ≡ false = sym (is_in_says range k h) ∙ e in absurd cc

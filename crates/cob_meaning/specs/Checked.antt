@@ -1,5 +1,5 @@
--- What the text of a program is once names and kinds were checked: each name stands for what its statement
--- asks for, and numbers and literals have their sizes.
+-- What the text of a program is once names and kinds were checked: each name stands for what its
+-- statement asks for, and numbers and literals have their sizes.
 use Rattle.std.specs.Prelude.{◌≡◌, ◌≤◌, ◌<◌, ℕ, IsTrue, List, length, Option, Some, None, IfSome}
 use Rattle.std.specs.List.{AllByRecursion}
 use Rattle.std.specs.Str.{all_ascii_digits}
@@ -49,7 +49,8 @@ pub record IsQuotation (characters : List ℕ) : Type 0 where
   pub text : IsText characters
 
 module _ (layout : Layout) where
-  -- a subscript of a table: a number of one of its occurrences, or a numeric item without a subscript
+  -- a subscript of a table: a number of one of its occurrences, or a numeric item without a
+  -- subscript
   abbrev pub IsCheckedSubscript : ℕ → Subscript → Type 0
   IsCheckedSubscript occurs (subscripts.Number position n) =
       IsNumeral n.digits × (1 ≤ number n.digits) × (number n.digits ≤ occurs)
@@ -93,7 +94,8 @@ module _ (layout : Layout) where
 
   -- a simple condition
   abbrev pub IsCheckedSimple : Simple → Type 0
-  IsCheckedSimple (simples.Compares left denied relation right) = IsCheckedOperand left × IsCheckedOperand right
+  IsCheckedSimple (simples.Compares left denied relation right) =
+      IsCheckedOperand left × IsCheckedOperand right
   IsCheckedSimple (simples.Numeric identifier denied) = IsCheckedIdentifier identifier
 
   -- a condition
@@ -106,16 +108,20 @@ module _ (layout : Layout) where
 
   -- the name of an output CD
   abbrev pub IsOutputCd : Name → Type 0
-  IsOutputCd name = (area : ℕ) × (occurrences : ℕ) × (referent layout name ≡ Some (output_cd area occurrences))
+  IsOutputCd name =
+      (area : ℕ) × (occurrences : ℕ) × (referent layout name ≡ Some (output_cd area occurrences))
 
   -- a key: an item or a literal of 1 to 10 characters
   abbrev pub IsCheckedKey : Key → Type 0
-  IsCheckedKey (keys.Item identifier) = IsCheckedItem (λ item. (1 ≤ item.length) × (item.length ≤ MAX_KEY_LENGTH)) identifier
-  IsCheckedKey (keys.Literal literal) = IsQuotation literal.characters × (length literal.characters ≤ MAX_KEY_LENGTH)
+  IsCheckedKey (keys.Item identifier) =
+      IsCheckedItem (λ item. (1 ≤ item.length) × (item.length ≤ MAX_KEY_LENGTH)) identifier
+  IsCheckedKey (keys.Literal literal) =
+      IsQuotation literal.characters × (length literal.characters ≤ MAX_KEY_LENGTH)
 
   -- an indicator: an item of one character, or a word
   abbrev pub IsCheckedIndicator : Indicator → Type 0
-  IsCheckedIndicator (indicators.Item identifier) = IsCheckedItem (λ item. item.length ≡ 1) identifier
+  IsCheckedIndicator (indicators.Item identifier) =
+      IsCheckedItem (λ item. item.length ≡ 1) identifier
   IsCheckedIndicator indicators.Esi = Unit {0}
   IsCheckedIndicator indicators.Emi = Unit {0}
   IsCheckedIndicator indicators.Egi = Unit {0}
@@ -123,7 +129,8 @@ module _ (layout : Layout) where
   -- lines: a numeric item, a number of at most 99, or PAGE
   abbrev pub AreCheckedLines : Lines → Type 0
   AreCheckedLines (lines.Count (addends.Item identifier)) = IsCheckedNumber identifier
-  AreCheckedLines (lines.Count (addends.Number n)) = IsNumeral n.digits × (number n.digits ≤ MAX_LINES)
+  AreCheckedLines (lines.Count (addends.Number n)) =
+      IsNumeral n.digits × (number n.digits ≤ MAX_LINES)
   AreCheckedLines lines.Page = Unit {0}
 
   -- the end of a SEND
@@ -144,7 +151,8 @@ module _ (layout : Layout) where
 
     -- a statement in which no others are
     abbrev pub IsCheckedPlain : Plain → Type 0
-    IsCheckedPlain (moves source targets) = IsCheckedOperand source × AllByRecursion IsCheckedIdentifier targets
+    IsCheckedPlain (moves source targets) =
+        IsCheckedOperand source × AllByRecursion IsCheckedIdentifier targets
     IsCheckedPlain (adds addend target) = IsCheckedAddend addend × IsCheckedNumber target
     IsCheckedPlain (subtracts addend target) = IsCheckedAddend addend × IsCheckedNumber target
     IsCheckedPlain (performs first last often) =
@@ -152,7 +160,8 @@ module _ (layout : Layout) where
     IsCheckedPlain (goes target) = IsParagraphName target
     IsCheckedPlain exits = Unit {0}
     IsCheckedPlain stops = Unit {0}
-    IsCheckedPlain (sends cd from ending) = IsOutputCd cd × IfSome from IsCheckedIdentifier × IfSome ending IsCheckedEnding
+    IsCheckedPlain (sends cd from ending) =
+        IsOutputCd cd × IfSome from IsCheckedIdentifier × IfSome ending IsCheckedEnding
     IsCheckedPlain (switches_input on terminal cd key) = IsInputCd cd × IsCheckedKey key
     IsCheckedPlain (switches_output on cd key) = IsOutputCd cd × IsCheckedKey key
     IsCheckedPlain (accepts cd) = IsInputCd cd
@@ -161,8 +170,10 @@ module _ (layout : Layout) where
       -- a statement
       pub IsCheckedStatement : Tree → Type 0
       IsCheckedStatement (plain statement) = IsCheckedPlain statement
-      IsCheckedStatement (branches position condition one other) = IsCheckedCondition condition × AreChecked one × AreChecked other
-      IsCheckedStatement (receives cd segment into no_data) = IsInputCd cd × IsCheckedIdentifier into × AreChecked no_data
+      IsCheckedStatement (branches position condition one other) =
+          IsCheckedCondition condition × AreChecked one × AreChecked other
+      IsCheckedStatement (receives cd segment into no_data) =
+          IsInputCd cd × IsCheckedIdentifier into × AreChecked no_data
 
       -- statements one after another
       pub AreChecked : Block → Type 0
@@ -171,7 +182,8 @@ module _ (layout : Layout) where
 
     -- paragraphs of the text
     abbrev pub AreCheckedParagraphs : List ParagraphTree → Type 0
-    AreCheckedParagraphs = AllByRecursion (λ paragraph. AllByRecursion AreChecked paragraph.sentences)
+    AreCheckedParagraphs =
+        AllByRecursion (λ paragraph. AllByRecursion AreChecked paragraph.sentences)
 
   -- the whole text
   abbrev pub IsCheckedText : List ParagraphTree → Type 0

@@ -17,7 +17,8 @@ use Rattle.cob_meaning.specs.Moves.{Content, a_number, a_text, a_group, all_spac
 
 -- how two numbers compare
 abbrev pub number_relation : ℕ → ℕ → Relation
-number_relation m n = if nat_lt m n then relation.Less else (if nat_lt n m then relation.Greater else relation.Equal)
+number_relation m n =
+    if nat_lt m n then relation.Less else (if nat_lt n m then relation.Greater else relation.Equal)
 
 -- the first of two relations, or the second where the first is equality
 abbrev pub then_relation : Relation → Relation → Relation
@@ -56,7 +57,8 @@ side_characters size all_zeros = zeros size
 -- how two sides compare by characters
 abbrev pub character_order : Content → Content → Relation
 character_order left right =
-    filled_relation (side_characters (own_length right) left) (side_characters (own_length left) right)
+    filled_relation (side_characters (own_length right) left)
+    (side_characters (own_length left) right)
 
 -- how two sides compare by number; none if a character of one is no digit
 abbrev pub number_order : List ℕ → List ℕ → Option Relation
@@ -65,8 +67,9 @@ number_order left right = do
   n ← number_in right
   Some (number_relation m n)
 
--- By number if both sides are numeric items or numbers, or one is and the other is ZEROS; otherwise by
--- characters. None if a numeric item that is used as a number holds a character that is no digit.
+-- By number if both sides are numeric items or numbers, or one is and the other is ZEROS; otherwise
+-- by characters. None if a numeric item that is used as a number holds a character that is no
+-- digit.
 abbrev pub compared : Content → Content → Option Relation
 compared (a_number left) (a_number right) = number_order left right
 compared (a_number left) all_zeros = number_order left (zeros 1)

@@ -11,8 +11,8 @@ infixl 10 ◌>>=◌
 abbrev pub ◌>>=◌ : {A B : Type 0} → Option A → (A → Option B) → Option B
 o >>= f = option_and_then f o
 
--- The names of a program with what they stand for, in the order of the text; its areas as they begin; and
--- the area of the CD that has INITIAL.
+-- The names of a program with what they stand for, in the order of the text; its areas as they
+-- begin; and the area of the CD that has INITIAL.
 pub record Layout : Type 0 where
   pub names : List Declared
   pub opening : List (List ℕ)
@@ -20,7 +20,8 @@ pub record Layout : Type 0 where
 
 -- what a name stands for; none if it is not declared
 abbrev pub referent : Layout → Name → Option Referent
-referent layout name = option_map (λ entry. entry.1) (find (λ entry. bytes_eq entry.0 name.text) layout.names)
+referent layout name =
+    option_map (λ entry. entry.1) (find (λ entry. bytes_eq entry.0 name.text) layout.names)
 
 -- the place of data, without a subscript
 abbrev pub place_of : Referent → Option ItemPlace
@@ -49,4 +50,5 @@ step = out_start (out.Error 1) - out_start (out.Error 0)
 -- an occurrence of an item, numbered from 1; none if the table has no such number
 abbrev pub occurrence : ℕ → ItemPlace → ℕ → Option ItemPlace
 occurrence occurs place n =
-    if nat_le 1 n && nat_le n occurs then Some (record place { start = place.start + step * (n - 1) }) else None
+    if nat_le 1 n
+    && nat_le n occurs then Some (record place { start = place.start + step * (n - 1) }) else None

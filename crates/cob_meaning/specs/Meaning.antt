@@ -40,7 +40,8 @@ then_do (Jump to run) next = Jump to run
 then_do (Stops reason run) next = Stops reason run
 then_do (Needs call run) next = Needs call run
 
--- one more statement or turn is begun, if this many may still be begun; otherwise the unit stops for LIMIT
+-- one more statement or turn is begun, if this many may still be begun; otherwise the unit stops
+-- for LIMIT
 abbrev pub begun_with : ℕ → (Run → Outcome) → Run → Outcome
 begun_with zero next run = Stops stop.Limit run
 begun_with (suc left) next run = next (record run { left = left })
@@ -77,12 +78,14 @@ times_of (Some k) turn run = times k turn run
 -- a turn until the condition holds, which is tested before each turn; n is a bound on the turns
 abbrev pub until : ℕ → (Storage → Option Bool) → (Run → Outcome) → Run → Outcome
 until zero test turn run = Stops stop.Limit run
-until (suc n) test turn run = choice (test run.storage) Normal (begun (λ r. then_do (turn r) (until n test turn))) run
+until (suc n) test turn run =
+    choice (test run.storage) Normal (begun (λ r. then_do (turn r) (until n test turn))) run
 
 -- the turns of a PERFORM
 abbrev pub turns : ℕ → Layout → Repetition → (Run → Outcome) → Run → Outcome
 turns n layout repetition.Once turn run = turn run
-turns n layout (repetition.Times counted) turn run = times_of (addend_number layout counted run.storage) turn run
+turns n layout (repetition.Times counted) turn run =
+    times_of (addend_number layout counted run.storage) turn run
 turns n layout (repetition.Until condition) turn run = until n (holds layout condition) turn run
 
 -- the statements of NO DATA, if the reply is that there is no data
@@ -95,7 +98,11 @@ abbrev pub answered : Request → (Run → Outcome) → List Reply → Run → O
 answered request no_data [] run = Needs request.call run
 answered request no_data (reply ∷ replies) run =
     after_reply reply no_data
-    (record run { storage = with_reply request reply run.storage; calls = run.calls ++ request.call ∷ []; replies = replies })
+    (record run {
+      storage = with_reply request reply run.storage;
+      calls = run.calls ++ request.call ∷ [];
+      replies = replies;
+    })
 
 -- a verb makes its request, or stops for DATA
 abbrev pub requested : Option Request → (Run → Outcome) → Run → Outcome
@@ -105,7 +112,8 @@ requested (Some request) no_data run = answered request no_data run.replies run
 -- a verb makes its request, if this many may still be answered; otherwise the unit stops for LIMIT
 abbrev pub verb_with : ℕ → (Storage → Option Request) → (Run → Outcome) → Run → Outcome
 verb_with zero request no_data run = Stops stop.Limit run
-verb_with (suc verbs) request no_data run = requested (request run.storage) no_data (record run { verbs = verbs })
+verb_with (suc verbs) request no_data run =
+    requested (request run.storage) no_data (record run { verbs = verbs })
 
 -- a verb, as far as the run may make it
 abbrev pub verb : (Storage → Option Request) → (Run → Outcome) → Run → Outcome
@@ -113,7 +121,8 @@ verb request no_data run = verb_with run.verbs request no_data run
 
 -- the number of a paragraph, from 0
 abbrev pub paragraph_number : List ParagraphTree → Name → ℕ
-paragraph_number text name = position_or_len (λ paragraph. bytes_eq paragraph.name.text name.text) text
+paragraph_number text name =
+    position_or_len (λ paragraph. bytes_eq paragraph.name.text name.text) text
 
 -- the last paragraph of a performed range
 abbrev pub last_of : Name → Option Name → Name
@@ -128,7 +137,8 @@ abbrev pub are_written : Block → Bool
 are_written none = false
 are_written (lead statement others) = true
 
--- what statements do, where a performed range does what `range` says and an UNTIL has at most n turns
+-- what statements do, where a performed range does what `range` says and an UNTIL has at most n
+-- turns
 module _ (layout : Layout) (text : List ParagraphTree) (n : ℕ) (range : Running) where
   -- a statement in which no others are
   abbrev pub plain_does : Plain → Run → Outcome
@@ -136,12 +146,14 @@ module _ (layout : Layout) (text : List ParagraphTree) (n : ℕ) (range : Runnin
   plain_does (adds addend target) = changed (add layout addend target)
   plain_does (subtracts addend target) = changed (subtract layout addend target)
   plain_does (performs first last often) =
-      turns n layout often (range (paragraph_number text first) (paragraph_number text (last_of first last)))
+      turns n layout often
+      (range (paragraph_number text first) (paragraph_number text (last_of first last)))
   plain_does (goes target) = Jump (paragraph_number text target)
   plain_does exits = Normal
   plain_does stops = Stops stop.Run
   plain_does (sends cd from ending) = verb (send layout cd from ending) Normal
-  plain_does (switches_input on terminal cd key) = verb (switch_input layout on terminal cd key) Normal
+  plain_does (switches_input on terminal cd key) =
+      verb (switch_input layout on terminal cd key) Normal
   plain_does (switches_output on cd key) = verb (switch_output layout on cd key) Normal
   plain_does (accepts cd) = verb (accept layout cd) Normal
 
@@ -151,7 +163,8 @@ module _ (layout : Layout) (text : List ParagraphTree) (n : ℕ) (range : Runnin
     does (plain statement) = begun (plain_does statement)
     does (branches position condition one other) =
         begun (λ run. choice (holds layout condition run.storage) (do_all one) (do_all other) run)
-    does (receives cd segment into no_data) = begun (verb (receive layout cd segment into (are_written no_data)) (do_all no_data))
+    does (receives cd segment into no_data) =
+        begun (verb (receive layout cd segment into (are_written no_data)) (do_all no_data))
 
     -- statements one after another
     pub do_all : Block → Run → Outcome
@@ -171,16 +184,18 @@ after (Stops reason run) jump next = Stops reason run
 after (Needs call run) jump next = Needs call run
 
 -- paragraphs one after another; a jump leaves them
-abbrev pub paragraphs_do : (ParagraphTree → Run → Outcome) → (ℕ → Run → Outcome) → List ParagraphTree → Run → Outcome
+abbrev pub paragraphs_do : (ParagraphTree → Run → Outcome) → (ℕ → Run → Outcome)
+    → List ParagraphTree → Run → Outcome
 paragraphs_do one jump [] run = Normal run
-paragraphs_do one jump (paragraph ∷ paragraphs) run = after (one paragraph run) jump (paragraphs_do one jump paragraphs)
+paragraphs_do one jump (paragraph ∷ paragraphs) run =
+    after (one paragraph run) jump (paragraphs_do one jump paragraphs)
 
 -- the paragraphs of a text from one to another
 abbrev pub from_to : List ParagraphTree → ℕ → ℕ → List ParagraphTree
 from_to text begin last = drop begin (take (last + 1) text)
 
--- A range from one of its paragraphs on. n is a bound on the jumps, ranges and turns on the way, of which
--- each is begun and counted.
+-- A range from one of its paragraphs on. n is a bound on the jumps, ranges and turns on the way, of
+-- which each is begun and counted.
 abbrev pub range : ℕ → Layout → List ParagraphTree → Running
 range zero layout text begin last run = Stops stop.Limit run
 range (suc n) layout text begin last run =
@@ -204,9 +219,11 @@ meaning_of (Jump to run) = record { calls = run.calls; ending = Stopped stop.Run
 meaning_of (Stops reason run) = record { calls = run.calls; ending = Stopped reason }
 meaning_of (Needs call run) = record { calls = run.calls; ending = Wants call }
 
--- the storage with the names that START hands over in the first characters of the CD that has INITIAL
+-- the storage with the names that START hands over in the first characters of the CD that has
+-- INITIAL
 abbrev pub with_names : Option ℕ → Option (List ℕ) → Storage → Storage
-with_names (Some area) (Some names) storage = with_area area (with_part 0 (length names) (area_in storage area) names) storage
+with_names (Some area) (Some names) storage =
+    with_area area (with_part 0 (length names) (area_in storage area) names) storage
 with_names _ _ storage = storage
 
 -- how many statements and turns a unit may begin, and how many verbs it may have answered
@@ -236,7 +253,8 @@ pub record Program : Type 0 where
 -- what a program does within limits, given these names and replies
 abbrev pub meaning_within : Limits → Program → Option (List ℕ) → List Reply → Meaning
 meaning_within limits program names replies =
-    meaning_of (whole limits program.layout program.text (beginning limits program.layout names replies))
+    meaning_of
+    (whole limits program.layout program.text (beginning limits program.layout names replies))
 
 abbrev MAX_VERBS : ℕ
 MAX_VERBS = 10000

@@ -18,8 +18,8 @@ use Rattle.cob_data.specs.Layout.{Referent, data_at, input_cd, output_cd}
 use Rattle.cob_meaning.specs.Layouts.{◌>>=◌, Layout, item_of, occurrence, referent}
 use Rattle.cob_meaning.specs.Storage.{Storage, held_by, with_prefix, number_in, number_held}
 
--- A function of this file gives none if the unit stops for DATA. So it does at a name that is not declared,
--- and at a subscript that is missing or not allowed, which no program has.
+-- A function of this file gives none if the unit stops for DATA. So it does at a name that is not
+-- declared, and at a subscript that is missing or not allowed, which no program has.
 
 -- the number of a subscript
 abbrev pub subscript_number : Layout → Subscript → Storage → Option ℕ
@@ -29,20 +29,24 @@ subscript_number layout (subscript.Item position name) storage = do
   number_held item storage
 
 -- the item at a place, by how often it occurs in a table and by its subscript
-abbrev pub subscripted_item : Layout → Storage → ItemPlace → Option ℕ → Option Subscript → Option ItemPlace
+abbrev pub subscripted_item : Layout → Storage → ItemPlace → Option ℕ → Option Subscript
+    → Option ItemPlace
 subscripted_item layout storage place None None = Some place
-subscripted_item layout storage place (Some occurs) (Some s) = subscript_number layout s storage >>= occurrence occurs place
+subscripted_item layout storage place (Some occurs) (Some s) =
+    subscript_number layout s storage >>= occurrence occurs place
 subscripted_item layout storage place _ _ = None
 
 -- the item that a name stands for, with a subscript or without one
 abbrev pub item_by : Layout → Storage → Option Subscript → Referent → Option ItemPlace
-item_by layout storage subscript (data_at place occurs) = subscripted_item layout storage place occurs subscript
+item_by layout storage subscript (data_at place occurs) =
+    subscripted_item layout storage place occurs subscript
 item_by layout storage subscript (input_cd area) = None
 item_by layout storage subscript (output_cd area occurrences) = None
 
 -- the item of an identifier
 abbrev pub item_at : Layout → Identifier → Storage → Option ItemPlace
-item_at layout identifier storage = referent layout identifier.name >>= item_by layout storage identifier.subscript
+item_at layout identifier storage =
+    referent layout identifier.name >>= item_by layout storage identifier.subscript
 
 -- what is moved or compared
 pub data Content : Type 0 where
@@ -84,7 +88,8 @@ moved (a_number digits) Numeric size = do
   n ← number_in digits
   Some (in_digits n size)
 moved (a_number digits) _ size = Some (from_left size digits)
-moved (a_text characters) Numeric size = if all_ascii_digits characters then Some (from_right size characters) else None
+moved (a_text characters) Numeric size =
+    if all_ascii_digits characters then Some (from_right size characters) else None
 moved (a_text characters) _ size = Some (from_left size characters)
 moved (a_group characters) _ size = Some (from_left size characters)
 moved all_spaces _ size = Some (spaces size)

@@ -38,8 +38,8 @@ use Rattle.cob_data.specs.Layout.{Referent, data_at, input_cd, output_cd}
 use Rattle.cob_meaning.specs.Layouts.{Layout, item_of, referent}
 use Rattle.cob_meaning.specs.Meaning.{Program}
 
--- A part has the faults of its own and of what it has. The first of all, by place and then by kind, is the
--- one that is reported.
+-- A part has the faults of its own and of what it has. The first of all, by place and then by kind,
+-- is the one that is reported.
 
 -- the fault at a place
 abbrev pub fault_at : Position → SourceKind → SourceFault
@@ -74,14 +74,17 @@ item_of_length least most position item =
     fault_unless (nat_le least item.length && nat_le item.length most) position faults.WrongLength
 
 -- a name that stands for data, with further rules for these: it is declared, and it is no CD's
-abbrev pub data_faults_by : Option Referent → Position → (ItemPlace → Option ℕ → List SourceFault) → List SourceFault
+abbrev pub data_faults_by : Option Referent → Position → (ItemPlace → Option ℕ → List SourceFault)
+    → List SourceFault
 data_faults_by None position others = fault_at position faults.UnknownName ∷ []
 data_faults_by (Some (data_at place occurs)) position others = others place occurs
 data_faults_by (Some (input_cd area)) position others = fault_at position faults.WrongKind ∷ []
-data_faults_by (Some (output_cd area occurrences)) position others = fault_at position faults.WrongKind ∷ []
+data_faults_by (Some (output_cd area occurrences)) position others =
+    fault_at position faults.WrongKind ∷ []
 
 -- the same of a name of a program
-abbrev pub data_faults : Layout → Name → (ItemPlace → Option ℕ → List SourceFault) → List SourceFault
+abbrev pub data_faults : Layout → Name → (ItemPlace → Option ℕ → List SourceFault)
+    → List SourceFault
 data_faults layout name others = data_faults_by (referent layout name) name.position others
 
 -- whether data occurs once, so that it has no subscript
@@ -92,9 +95,12 @@ is_single (Some occurs) = false
 -- a subscript of a table: a number of one of its occurrences, or a numeric item without a subscript
 abbrev pub subscript_faults : Layout → ℕ → Subscript → List SourceFault
 subscript_faults layout occurs (subscripts.Number position n) =
-    fault_unless (nat_le 1 (number n.digits) && nat_le (number n.digits) occurs) n.position faults.WrongKind
+    fault_unless
+    (nat_le 1 (number n.digits) && nat_le (number n.digits) occurs) n.position faults.WrongKind
 subscript_faults layout occurs (subscripts.Item position name) =
-    data_faults layout name (λ item times. fault_unless (is_single times && is_numeric item.sort) name.position faults.WrongKind)
+    data_faults layout name
+    (λ item times.
+    fault_unless (is_single times && is_numeric item.sort) name.position faults.WrongKind)
 
 -- the place of a subscript's parenthesis
 abbrev pub subscript_position : Subscript → Position
@@ -104,15 +110,19 @@ subscript_position (subscripts.Item position name) = position
 -- a subscript is written exactly with a name of a table
 abbrev pub subscripted_faults : Layout → Position → Option ℕ → Option Subscript → List SourceFault
 subscripted_faults layout position None None = []
-subscripted_faults layout position None (Some subscript) = fault_at (subscript_position subscript) faults.WrongKind ∷ []
+subscripted_faults layout position None (Some subscript) =
+    fault_at (subscript_position subscript) faults.WrongKind ∷ []
 subscripted_faults layout position (Some occurs) None = fault_at position faults.WrongKind ∷ []
-subscripted_faults layout position (Some occurs) (Some subscript) = subscript_faults layout occurs subscript
+subscripted_faults layout position (Some occurs) (Some subscript) =
+    subscript_faults layout occurs subscript
 
 -- an identifier, with a rule for its item
 abbrev pub identifier_faults : Layout → ItemRule → Identifier → List SourceFault
 identifier_faults layout rule identifier =
     data_faults layout identifier.name
-    (λ item occurs. rule identifier.name.position item ++ subscripted_faults layout identifier.name.position occurs identifier.subscript)
+    (λ item occurs.
+    rule identifier.name.position item
+    ++ subscripted_faults layout identifier.name.position occurs identifier.subscript)
 
 -- what is added, subtracted or counted is a numeric item or a number
 abbrev pub addend_faults : Layout → Addend → List SourceFault
@@ -140,15 +150,18 @@ is_number_operand layout _ = false
 
 -- SPACES are not moved to a numeric item and not compared with one
 abbrev pub spaces_faults : Operand → Bool → List SourceFault
-spaces_faults (operands.Spaces position) beside_number = fault_unless (not beside_number) position faults.WrongKind
+spaces_faults (operands.Spaces position) beside_number =
+    fault_unless (not beside_number) position faults.WrongKind
 spaces_faults _ beside_number = []
 
 -- a simple condition
 abbrev pub simple_faults : Layout → Simple → List SourceFault
 simple_faults layout (simples.Compares left denied relation right) =
     operand_faults layout left ++ operand_faults layout right
-    ++ spaces_faults left (is_number_operand layout right) ++ spaces_faults right (is_number_operand layout left)
-simple_faults layout (simples.Numeric identifier denied) = identifier_faults layout any_item identifier
+    ++ spaces_faults left (is_number_operand layout right)
+    ++ spaces_faults right (is_number_operand layout left)
+simple_faults layout (simples.Numeric identifier denied) =
+    identifier_faults layout any_item identifier
 
 -- a condition
 abbrev pub condition_faults : Layout → Condition → List SourceFault
@@ -158,7 +171,8 @@ condition_faults layout condition = flat_map (simple_faults layout) condition.pa
 abbrev pub input_faults_by : Option Referent → Position → List SourceFault
 input_faults_by None position = fault_at position faults.UnknownName ∷ []
 input_faults_by (Some (input_cd area)) position = []
-input_faults_by (Some (output_cd area occurrences)) position = fault_at position faults.WrongKind ∷ []
+input_faults_by (Some (output_cd area occurrences)) position =
+    fault_at position faults.WrongKind ∷ []
 input_faults_by (Some (data_at place occurs)) position = fault_at position faults.WrongKind ∷ []
 
 -- the same of a name of a program
@@ -178,9 +192,12 @@ output_faults layout name = output_faults_by (referent layout name) name.positio
 
 -- a key has 1 to 10 characters
 abbrev pub key_faults : Layout → Key → List SourceFault
-key_faults layout (keys.Item identifier) = identifier_faults layout (item_of_length 1 MAX_KEY_LENGTH) identifier
+key_faults layout (keys.Item identifier) =
+    identifier_faults layout (item_of_length 1 MAX_KEY_LENGTH) identifier
 key_faults layout (keys.Literal literal) =
-    fault_unless (nat_le 1 (length literal.characters) && nat_le (length literal.characters) MAX_KEY_LENGTH) literal.position faults.WrongLength
+    fault_unless
+    (nat_le 1 (length literal.characters) && nat_le (length literal.characters) MAX_KEY_LENGTH)
+    literal.position faults.WrongLength
 
 -- an identifier that may be left out
 abbrev pub some_identifier_faults : Layout → Option Identifier → List SourceFault
@@ -189,13 +206,16 @@ some_identifier_faults layout (Some identifier) = identifier_faults layout any_i
 
 -- the item of an indicator has one character
 abbrev pub indicator_faults : Layout → Indicator → List SourceFault
-indicator_faults layout (indicators.Item identifier) = identifier_faults layout (item_of_length 1 1) identifier
+indicator_faults layout (indicators.Item identifier) =
+    identifier_faults layout (item_of_length 1 1) identifier
 indicator_faults layout _ = []
 
 -- a number of lines is a numeric item, or a number of at most 99
 abbrev pub lines_faults : Layout → Lines → List SourceFault
-lines_faults layout (lines.Count (addends.Number n)) = fault_unless (nat_le (number n.digits) MAX_LINES) n.position faults.OverLimit
-lines_faults layout (lines.Count (addends.Item identifier)) = identifier_faults layout numeric_item identifier
+lines_faults layout (lines.Count (addends.Number n)) =
+    fault_unless (nat_le (number n.digits) MAX_LINES) n.position faults.OverLimit
+lines_faults layout (lines.Count (addends.Item identifier)) =
+    identifier_faults layout numeric_item identifier
 lines_faults layout lines.Page = []
 
 -- ADVANCING, which may be left out
@@ -206,12 +226,15 @@ advancing_faults layout (Some advancing) = lines_faults layout advancing.lines
 -- the end of a SEND, which may be left out
 abbrev pub ending_faults : Layout → Option Ending → List SourceFault
 ending_faults layout None = []
-ending_faults layout (Some ending) = indicator_faults layout ending.indicator ++ advancing_faults layout ending.advancing
+ending_faults layout (Some ending) =
+    indicator_faults layout ending.indicator ++ advancing_faults layout ending.advancing
 
 -- a name of a paragraph
 abbrev pub paragraph_faults : List ParagraphTree → Name → List SourceFault
 paragraph_faults text name =
-    fault_unless (list_any (λ paragraph. bytes_eq paragraph.name.text name.text) text) name.position faults.UnknownName
+    fault_unless
+    (list_any (λ paragraph. bytes_eq paragraph.name.text name.text) text) name.position
+    faults.UnknownName
 
 -- the paragraph after THRU, which may be left out
 abbrev pub some_paragraph_faults : List ParagraphTree → Option Name → List SourceFault
@@ -230,10 +253,13 @@ module _ (layout : Layout) (text : List ParagraphTree) where
   plain_faults (moves source targets) =
       operand_faults layout source ++ flat_map (identifier_faults layout any_item) targets
       ++ spaces_faults source (list_any (names_number layout) targets)
-  plain_faults (adds addend target) = addend_faults layout addend ++ identifier_faults layout numeric_item target
-  plain_faults (subtracts addend target) = addend_faults layout addend ++ identifier_faults layout numeric_item target
+  plain_faults (adds addend target) =
+      addend_faults layout addend ++ identifier_faults layout numeric_item target
+  plain_faults (subtracts addend target) =
+      addend_faults layout addend ++ identifier_faults layout numeric_item target
   plain_faults (performs first last often) =
-      paragraph_faults text first ++ some_paragraph_faults text last ++ repetition_faults layout often
+      paragraph_faults text first ++ some_paragraph_faults text last
+      ++ repetition_faults layout often
   plain_faults (goes target) = paragraph_faults text target
   plain_faults exits = []
   plain_faults stops = []

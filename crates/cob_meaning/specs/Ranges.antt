@@ -8,7 +8,8 @@ use Rattle.cob_proc.specs.Trees.{Plain, performs, goes, Tree, plain, branches, r
 use Rattle.cob_meaning.specs.Meaning.{last_of, paragraph_number}
 use Rattle.cob_meaning.specs.Names.{fault_at}
 
--- a PERFORM: the number of the paragraph in which it is, and the names of its range as they are written
+-- a PERFORM: the number of the paragraph in which it is, and the names of its range as they are
+-- written
 pub record Performing : Type 0 where
   pub from : ℕ
   pub first : Name
@@ -58,12 +59,14 @@ module _ (k : ℕ) where
 -- the PERFORMs of paragraphs, of which the first has this number
 abbrev pub performs_from : ℕ → List ParagraphTree → List Performing
 performs_from k [] = []
-performs_from k (paragraph ∷ others) = flat_map (all_performs k) paragraph.sentences ++ performs_from (suc k) others
+performs_from k (paragraph ∷ others) =
+    flat_map (all_performs k) paragraph.sentences ++ performs_from (suc k) others
 
 -- the GOs of paragraphs, of which the first has this number
 abbrev pub goes_from : ℕ → List ParagraphTree → List Going
 goes_from k [] = []
-goes_from k (paragraph ∷ others) = flat_map (all_goes k) paragraph.sentences ++ goes_from (suc k) others
+goes_from k (paragraph ∷ others) =
+    flat_map (all_goes k) paragraph.sentences ++ goes_from (suc k) others
 
 -- a range, by the numbers of its first and last paragraph
 pub record Range : Type 0 where
@@ -72,37 +75,44 @@ pub record Range : Type 0 where
 
 -- a range has the paragraphs from its first to its last; one that ends before it begins has none
 pub record IsIn (range : Range) (k : ℕ) : Type 0 where
-  pub behind_first : range.first ≤ k
-  pub up_to_last : k ≤ range.last
+  pub from_first : range.first ≤ k
+  pub to_last : k ≤ range.last
 
 module _ (text : List ParagraphTree) where
   -- the range of a PERFORM
   abbrev pub range_of : Performing → Range
-  range_of p = record { first = paragraph_number text p.first; last = paragraph_number text (last_of p.first p.last) }
+  range_of p = record {
+    first = paragraph_number text p.first;
+    last = paragraph_number text (last_of p.first p.last);
+  }
 
   -- a PERFORM of the text
   abbrev pub IsPerformed : Performing → Type 0
   IsPerformed p = Contains (performs_from 0 text) p
 
-  -- A range reaches the paragraphs in it, and those in each range that a paragraph that it reaches performs.
+  -- A range reaches the paragraphs in it, and those in each range that a paragraph that it reaches
+  -- performs.
   pub data Reaches (range : Range) : ℕ → Type 0 where
     directly : {k : ℕ} → IsIn range k → Reaches range k
-    through : {k : ℕ} (p : Performing) → IsPerformed p → Reaches range p.from → IsIn (range_of p) k → Reaches range k
+    through : {k : ℕ} (p : Performing) → IsPerformed p → Reaches range p.from → IsIn (range_of p) k
+        → Reaches range k
 
-  -- The faults of ranges. A PERFORM whose THRU ends before it begins has no range, and so no other fault.
+  -- The faults of ranges. A PERFORM whose THRU ends before it begins has no range, and so no other
+  -- fault.
   pub data IsRangesFault : SourceFault → Type 0 where
     -- a THRU that ends before it begins, at its end
     backward : (p : Performing) → IsPerformed p → (range_of p).last < (range_of p).first
         → IsRangesFault (fault_at (last_of p.first p.last).position faults.LeavesRange)
     -- a GO out of a range that its paragraph is in, at its target
     leaves : (going : Going) (p : Performing) → Contains (goes_from 0 text) going → IsPerformed p
-        → IsIn (range_of p) going.from → (IsIn (range_of p) (paragraph_number text going.target) → ⊥)
+        → IsIn (range_of p) going.from
+        → (IsIn (range_of p) (paragraph_number text going.target) → ⊥)
         → IsRangesFault (fault_at going.target.position faults.LeavesRange)
     -- a PERFORM whose range reaches its own paragraph, at the name of its first
     circles : (p : Performing) → IsPerformed p → Reaches (range_of p) p.from
         → IsRangesFault (fault_at p.first.position faults.PerformsItself)
 
--- the first of the faults that are meant, by place and then by kind
+-- the first of some faults, by place and then by kind
 pub record IsFirstOf (IsFault : SourceFault → Type 0) (fault : SourceFault) : Type 0 where
   pub is_fault : IsFault fault
   pub none_before : (other : SourceFault) → IsFault other → is_before other fault ≡ false

@@ -25,7 +25,8 @@ abbrev pub extent : ℕ → Option ℕ → ℕ
 extent size None = size
 extent size (Some occurs) = size + step * (occurs - 1)
 
--- an item of 1 to 2,000 characters, a numeric one of at most 18, with all of its occurrences in its area
+-- an item of 1 to 2,000 characters, a numeric one of at most 18, with all of its occurrences in its
+-- area
 pub record IsItemIn (opening : List (List ℕ)) (item : ItemPlace) (occurs : Option ℕ) : Type 0 where
   pub some : 1 ≤ item.length
   pub few : item.length ≤ MAX_ITEM_LENGTH
@@ -46,9 +47,11 @@ pub record IsSound (layout : Layout) : Type 0 where
 
 -- THE CALLS
 
--- a reply that fits a call: an area as long as the call's, and a text of no more characters than were asked for
+-- a reply that fits a call: an area as long as the call's, and a text of no more characters than
+-- were asked for
 abbrev pub IsFit : Call → Reply → Type 0
-IsFit (Receive area kind size no_data) (Given after text) = IsInputArea after × IsText text × (length text ≤ size)
+IsFit (Receive area kind size no_data) (Given after text) =
+    IsInputArea after × IsText text × (length text ≤ size)
 IsFit (Receive area kind size no_data) (NoData after) = IsInputArea after
 IsFit (Receive area kind size no_data) (Refused after) = IsInputArea after
 IsFit (Count area) (AreaIn after) = IsInputArea after

@@ -15,12 +15,10 @@ use Rattle.cob_data.specs.Forms.{data_division, alternatives_of}
 use Rattle.cob_data.specs.Layout.{declared, initial_area, opening_storage}
 use Rattle.cob_proc.specs.Faults.{procedure_fault}
 use Rattle.cob_proc.specs.Spelled.{IsProcedure}
-use Rattle.cob_meaning.specs.Checked.{IsCheckedText}
 use Rattle.cob_meaning.specs.Layouts.{Layout}
 use Rattle.cob_meaning.specs.Meaning.{Program}
 use Rattle.cob_meaning.specs.Names.{names_faults}
 use Rattle.cob_meaning.specs.Ranges.{IsFirstOf, IsRangesFault}
-use Rattle.cob_meaning.specs.Sound.{IsSound}
 
 -- what the divisions before the Procedure Division say of names and areas
 abbrev pub layout_of : DataDivision → Layout
@@ -28,12 +26,13 @@ layout_of d = record { names = declared d; opening = opening_storage d; initial 
 
 -- THE PASSES
 
--- The tokens from the word PROCEDURE on, if reading the divisions comes to it: it is the last token that was
--- read.
+-- The tokens from the word PROCEDURE on, if reading the divisions comes to it: it is the last token
+-- that was read.
 abbrev pub from_procedure : List Token → List Token
 from_procedure ts = drop (length (counting ts (reading alternatives_of data_division ts)) - 1) ts
 
--- the fault that the passes over tokens report: that of the data pass, and else that of the procedure pass
+-- the fault that the passes over tokens report: that of the data pass, and else that of the
+-- procedure pass
 abbrev pub tokens_fault : List Token → Option SourceFault
 tokens_fault ts = option_or (data_fault ts) (procedure_fault (from_procedure ts))
 
@@ -46,8 +45,8 @@ text_fault_by (Ok ts) = tokens_fault ts
 abbrev pub text_fault : List ℕ → Option SourceFault
 text_fault source = text_fault_by (tokens_of source)
 
--- Tokens without a fault spell a program: those before the word PROCEDURE its layout, and those from it on
--- its paragraphs.
+-- Tokens without a fault spell a program: those before the word PROCEDURE its layout, and those
+-- from it on its paragraphs.
 pub record Spells (ts : List Token) (program : Program) : Type 0 where
   pub no_fault : tokens_fault ts ≡ None
   pub place : ℕ
@@ -69,7 +68,8 @@ pub record HasNoTreesFault (program : Program) : Type 0 where
 
 -- THE PROGRAM
 
--- a source is a program if it is not too long, its tokens spell the program, and the program has no fault
+-- a source is a program if it is not too long, its tokens spell the program, and the program has no
+-- fault
 pub record IsProgramOf (source : List ℕ) (program : Program) : Type 0 where
   pub few : length source ≤ MAX_SOURCE
   pub tokens : List Token
@@ -77,20 +77,18 @@ pub record IsProgramOf (source : List ℕ) (program : Program) : Type 0 where
   pub spells : Spells tokens program
   pub no_fault : HasNoTreesFault program
 
--- what every program of a source is
-pub record IsChecked (program : Program) : Type 0 where
-  pub layout : IsSound program.layout
-  pub text : IsCheckedText program.layout program.text
-
 -- THE FAULT
 
--- The fault of a source. Its length comes first, and then the passes lex, data, procedure, names and kinds,
--- and ranges. The first of them that finds a fault reports its first.
+-- The fault of a source. Its length comes first, and then the passes lex, data, procedure, names
+-- and kinds, and ranges. The first of them that finds a fault reports its first.
 pub data IsSourceFaultOf (source : List ℕ) : SourceFault → Type 0 where
   of_length : MAX_SOURCE < length source → IsSourceFaultOf source (fault 1 1 faults.OverLimit)
-  of_text : {found : SourceFault} → length source ≤ MAX_SOURCE → text_fault source ≡ Some found → IsSourceFaultOf source found
-  of_trees : {found : SourceFault} (tokens : List Token) (program : Program) → length source ≤ MAX_SOURCE
-      → tokens_of source ≡ Ok tokens → Spells tokens program → IsTreesFaultOf program found → IsSourceFaultOf source found
+  of_text : {found : SourceFault} → length source ≤ MAX_SOURCE → text_fault source ≡ Some found
+      → IsSourceFaultOf source found
+  of_trees : {found : SourceFault} (tokens : List Token) (program : Program)
+      → length source ≤ MAX_SOURCE
+      → tokens_of source ≡ Ok tokens → Spells tokens program → IsTreesFaultOf program found
+      → IsSourceFaultOf source found
 
 -- what a source is read as: its program, or its fault
 abbrev pub IsReadAs : List ℕ → Result Program SourceFault → Type 0

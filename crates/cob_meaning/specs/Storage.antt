@@ -24,7 +24,8 @@ held_by item storage = part item.start item.length (area_in storage item.area)
 -- the storage with these characters from the left end of an item on, and all others as before
 abbrev pub with_prefix : ItemPlace → List ℕ → Storage → Storage
 with_prefix item characters storage =
-    with_area item.area (with_part item.start (length characters) (area_in storage item.area) characters) storage
+    with_area item.area
+    (with_part item.start (length characters) (area_in storage item.area) characters) storage
 
 -- the number that digits write; none if another character is among them
 abbrev pub number_in : List ℕ → Option ℕ

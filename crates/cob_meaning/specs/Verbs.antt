@@ -25,7 +25,8 @@ use Rattle.cob_meaning.specs.Layouts.{◌>>=◌, Layout, cd_of}
 use Rattle.cob_meaning.specs.Storage.{Storage, area_in, with_area, held_by, with_prefix}
 use Rattle.cob_meaning.specs.Moves.{addend_number, item_at}
 
--- A call that a verb makes, the area of its CD, and the item of INTO, which is found before the call.
+-- A call that a verb makes, the area of its CD, and the item of INTO, which is found before the
+-- call.
 pub record Request : Type 0 where
   pub call : Call
   pub area : ℕ
@@ -39,7 +40,11 @@ receive layout cd segment into no_data storage = do
   area ← cd_of layout cd
   item ← item_at layout into storage
   let received = if segment then kind.Segment else kind.Message
-  Some (record { call = call.Receive (area_in storage area) received item.length no_data; area = area; into = Some item })
+  Some (record {
+    call = call.Receive (area_in storage area) received item.length no_data;
+    area = area;
+    into = Some item;
+  })
 
 -- the characters that are sent, if there is an item after FROM
 abbrev pub sent_text : Layout → Option Identifier → Storage → Option (Option (List ℕ))
@@ -63,7 +68,8 @@ advance_by layout after lines.Page storage = Some (if after then AfterPage else 
 -- how a text is advanced: after one line if nothing is written
 abbrev pub advance_of : Layout → Option Advancing → Storage → Option Advance
 advance_of layout None storage = Some (After 1)
-advance_of layout (Some advancing) storage = advance_by layout advancing.after advancing.lines storage
+advance_of layout (Some advancing) storage =
+    advance_by layout advancing.after advancing.lines storage
 
 -- the end that an item's character indicates: 1 is ESI, 2 is EMI, 3 is EGI
 abbrev pub indicated : List ℕ → Option (Advance → Part)
@@ -111,14 +117,22 @@ abbrev pub switch_input : Layout → Bool → Bool → Name → Key → Storage 
 switch_input layout on terminal cd password storage = do
   area ← cd_of layout cd
   characters ← key_characters layout password storage
-  Some (record { call = call.SwitchInput on terminal (area_in storage area) characters; area = area; into = None })
+  Some (record {
+    call = call.SwitchInput on terminal (area_in storage area) characters;
+    area = area;
+    into = None;
+  })
 
 -- ENABLE and DISABLE OUTPUT
 abbrev pub switch_output : Layout → Bool → Name → Key → Storage → Option Request
 switch_output layout on cd password storage = do
   area ← cd_of layout cd
   characters ← key_characters layout password storage
-  Some (record { call = call.SwitchOutput on (area_in storage area) characters; area = area; into = None })
+  Some (record {
+    call = call.SwitchOutput on (area_in storage area) characters;
+    area = area;
+    into = None;
+  })
 
 -- ACCEPT MESSAGE COUNT
 abbrev pub accept : Layout → Name → Storage → Option Request
@@ -147,4 +161,5 @@ with_text _ _ storage = storage
 
 -- the storage after a reply: first its area is placed, and then its text
 abbrev pub with_reply : Request → Reply → Storage → Storage
-with_reply request reply storage = with_text request.into reply (with_reply_area request.area (area_after reply) storage)
+with_reply request reply storage =
+    with_text request.into reply (with_reply_area request.area (area_after reply) storage)

@@ -47,14 +47,14 @@ pub fn more_replies_go_on()
         (meaning program names (replies ++ reply ∷ more)) }
 {}
 
-/// So the calls that were answered stay, in front of those that more replies bring.
+/// So the calls that were answered stay, before those that more replies bring.
 pub fn answered_calls_stay()
     ensures { (program : Program) (names : Option (List ℕ)) (replies more : List ReplyOf) →
         IsPrefixOf (meaning program names replies).calls
         (meaning program names (replies ++ more)).calls }
 {}
 
-/// Each call that was answered took one reply, and another is wanted only where none is left.
+/// Each call that was answered took one reply, and another is wanted only if none is left.
 pub fn each_call_takes_a_reply()
     ensures { (program : Program) (names : Option (List ℕ)) (replies : List ReplyOf) →
         Takes (meaning program names replies) replies }
@@ -67,7 +67,7 @@ pub fn calls_are_within_limits()
         length (meaning_within limits program names replies).calls ≤ limits.verbs }
 {}
 
-/// What the entries of a unit tell once it has stopped, they tell at any time.
+/// What the entries of a unit say once it has stopped, they say at any time.
 pub fn follows_so_far()
     ensures { (party : PartyOf) (program : Program) (entries : List EntryOf) →
         Follows party program entries → SoFar party program entries }
@@ -89,12 +89,14 @@ pub fn fronts_are_of_the_program()
 
 /// The bound of a range is above what may still be begun, so one more changes nothing.
 pub fn more_bound_changes_nothing()
-    ensures { (bound : ℕ) (layout : Layout) (text : List ParagraphTree) (begin last : ℕ) (run : Run) →
+    ensures { (bound : ℕ) (layout : Layout) (text : List ParagraphTree) (begin last : ℕ)
+        (run : Run) →
         run.left < bound →
         range bound layout text begin last run ≡ range (bound + 1) layout text begin last run }
 {}
 
-/// The Procedure Division begins at the last token of the divisions before it, and nothing is left out.
+/// The Procedure Division begins at the last token of the divisions before it, and nothing is left
+/// out.
 pub fn procedure_begins_where_divisions_end()
     ensures { (tokens : List TokenOf) (place : ℕ) (division : DivisionOf) →
         IsDivisionOf tokens place division → from_procedure tokens ≡ drop place tokens }
@@ -106,7 +108,7 @@ pub fn programs_never_stop_idle()
         (meaning program names replies).ending ≡ Stopped reason.Idle → ⊥ }
 {}
 
-/// What the entries of a unit tell so far, they told at any time before, where a call that waits comes
+/// What the entries of a unit say so far, they said at any time before, if a call that waits comes
 /// again until it is answered.
 pub fn fronts_are_so_far()
     ensures { (party : PartyOf) (program : Program) (front rest : List EntryOf) →
@@ -114,12 +116,12 @@ pub fn fronts_are_so_far()
         SoFar party program front }
 {}
 
-/// The calls of a program without a fault are well formed, those that were answered and the one that
-/// wants a reply, if its layout is sound, its text is checked and the replies fit the calls.
+/// The calls of a program without a fault are well formed, those that were answered and the one
+/// that wants a reply, if its layout is sound, its text is checked and the replies fit the calls.
 pub fn calls_are_well_formed()
     ensures { (program : Program) (names : Option (List ℕ)) (replies : List ReplyOf) →
-        IsSound program.layout → IsCheckedText program.layout program.text → first (names_faults program) ≡ None →
-        IfSome names AreNames → AreFit (meaning program names replies).calls replies →
+        IsSound program.layout → IsCheckedText program.layout program.text →
+        first (names_faults program) ≡ None → IfSome names AreNames → AreFit (meaning program names replies).calls replies →
         AreWellFormed (meaning program names replies) }
 {}
 
@@ -167,8 +169,8 @@ pub fn ranges_have_a_first_fault_or_none()
         ⊎ ((fault : FaultOf) → IsRangesFault text fault → ⊥) }
 {}
 
-/// The names of a program of a source stand for what its statements ask for, and its numbers and literals
-/// have their sizes.
+/// The names of a program of a source stand for what its statements ask for, and its numbers and
+/// literals have their sizes.
 pub fn programs_are_checked()
     ensures { (source : List ℕ) (program : Program) → IsProgramOf source program →
         IsCheckedText program.layout program.text }
