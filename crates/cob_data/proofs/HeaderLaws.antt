@@ -108,7 +108,7 @@ tokens_of (sort ∷ sorts) parts = token sort ∷ tokens_of sorts parts
 not_wanted : (left : ℕ) (rest : List Token) → wanted left ≡ ends rest → ⊥
 not_wanted left rest h = cc
 
-step_by : (b : Bool) (parts : List (Part Form)) (us rest : List Token) (n : ℕ) → goes_on (if b then Some parts else None) (λ left. reading alternatives_of left us) n ≡ ends rest → reading alternatives_of parts us ≡ ends rest
+pub step_by : (b : Bool) (parts : List (Part Form)) (us rest : List Token) (n : ℕ) → goes_on (if b then Some parts else None) (λ left. reading alternatives_of left us) n ≡ ends rest → reading alternatives_of parts us ≡ ends rest
 step_by true parts us rest n h = h
 step_by false parts us rest n h = absurd (not_wanted n rest h)
 

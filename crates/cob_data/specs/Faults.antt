@@ -1,5 +1,5 @@
 -- The faults of the divisions before the Procedure Division.
-use Rattle.std.specs.Prelude.{ℕ, suc, ◌+◌, Bool, true, false, not, ◌&&◌, ◌||◌, ◌==◌, nat_le, nat_lt, if◌then◌else◌, List, [], ◌∷◌, ◌++◌, length, take, drop, sum, map, filter, flat_map, codes, bytes_eq, is_none, Option, Some, None, option_to_list}
+use Rattle.std.specs.Prelude.{ℕ, suc, ◌+◌, ◌-◌, Bool, true, false, not, ◌&&◌, ◌||◌, ◌==◌, nat_le, nat_lt, if◌then◌else◌, List, [], ◌∷◌, ◌++◌, length, take, drop, sum, map, filter, flat_map, codes, bytes_eq, is_none, Option, Some, None, option_to_list}
 use Rattle.std.specs.List.{list_any}
 use Rattle.com_cd.specs.declared.output_area.TheConstants.{MAX_OCCURRENCES}
 use Rattle.cob_data.specs.Numerals.{numeral}
@@ -9,8 +9,8 @@ use Rattle.cob_lex.specs.declared.fault.SourceKind.TheVariants as faults
 use Rattle.cob_lex.specs.declared.token.Token.{Token}
 use Rattle.cob_lex.specs.declared.token.TokenKind.TheVariants as tokens
 use Rattle.cob_forms.specs.Sorts.{reserved, name, of_kind, is, in_area_a}
-use Rattle.cob_forms.specs.Forms.{Reading, reading}
-use Rattle.cob_forms.specs.Faults.{fault, first, wanted_word, counting}
+use Rattle.cob_forms.specs.Forms.{Reading, ends, reading, wanted}
+use Rattle.cob_forms.specs.Faults.{before_wanted, fault, first, wanted_word}
 use Rattle.cob_data.specs.declared.names.TheConstants.{MAX_DATA_NAMES}
 use Rattle.cob_data.specs.declared.characters.TheConstants.{MAX_CHARACTERS}
 use Rattle.cob_data.specs.declared.tree.ItemSort.{ItemSort}
@@ -211,6 +211,28 @@ extent_length (item ∷ items) = suc (if is_group (sort_of_item item) then lengt
 abbrev pub extent : List (List Token) → List (List Token)
 extent items = take (extent_length items) items
 
+-- an item stands below an elementary one, which has this rank if there is one
+abbrev pub is_covered : Option ℕ → List Token → Bool
+is_covered None item = false
+is_covered (Some own) item = nat_lt own (rank item)
+
+abbrev pub rank_if_elementary : List Token → Option ℕ
+rank_if_elementary item = if is_group (sort_of_item item) then None else Some (rank item)
+
+-- the rank of the elementary item below which the item behind another may stand
+abbrev pub cover_behind : Option ℕ → List Token → Option ℕ
+cover_behind cover item = if is_covered cover item then cover else rank_if_elementary item
+
+abbrev pub put_unless : Bool → List Token → List (List Token) → List (List Token)
+put_unless true item items = items
+put_unless false item items = item ∷ items
+
+-- The items that count into the length of the item before them. What stands below an elementary item counts into no
+-- length, at any level.
+abbrev pub counted : Option ℕ → List (List Token) → List (List Token)
+counted cover [] = []
+counted cover (item ∷ items) = put_unless (is_covered cover item) item (counted (cover_behind cover item) items)
+
 -- An item that begins a record has at most 2,000 characters, and over a CD just those of the area.
 abbrev pub is_record_right : Option ℕ → ℕ → Bool
 is_record_right None n = true
@@ -222,7 +244,7 @@ size_faults area items =
     ++ unless (list_any (λ item. is_bad (picture_in item)) items || is_record_right area (record_size items)) faults.WrongLength (second_token (first_item items))
 
 abbrev pub record_faults : Option ℕ → List (List Token) → List SourceFault
-record_faults area items = size_faults area (extent items)
+record_faults area items = size_faults area (counted None (extent items))
 
 -- A record counts where a further token stands behind what its first item is made of. Behind the last record of a
 -- text none does, unless items follow in it that are no part of that one.
@@ -242,10 +264,16 @@ run_faults is_last run =
     level_faults (is_cd run.head) [] run.items ++ whole_faults is_last (is_cd run.head) run.items
     ++ records_faults is_last (over run) (records_of run.items)
 
-abbrev pub runs_faults : List Run → List SourceFault
-runs_faults [] = []
-runs_faults (run ∷ []) = run_faults true run
-runs_faults (run ∷ next ∷ runs) = run_faults false run ++ runs_faults (next ∷ runs)
+-- The faults of runs, by whether further tokens stand behind the last one.
+abbrev pub runs_faults : Bool → List Run → List SourceFault
+runs_faults is_followed [] = []
+runs_faults is_followed (run ∷ []) = run_faults (not is_followed) run
+runs_faults is_followed (run ∷ next ∷ runs) = run_faults false run ++ runs_faults is_followed (next ∷ runs)
+
+-- the entries behind which a further token stands
+abbrev pub whole_entries : Bool → List (List Token) → List (List Token)
+whole_entries true entries = entries
+whole_entries false entries = all_but_last entries
 
 -- the item with which items have more than so many characters
 abbrev pub characters_past : ℕ → ℕ → List (List Token) → List SourceFault
@@ -264,21 +292,38 @@ pub record Limits : Type 0 where
 abbrev pub limits : Limits
 limits = record { names = MAX_DATA_NAMES; characters = MAX_CHARACTERS }
 
--- the faults that tokens have apart from where another one is wanted
-abbrev pub other_faults : Limits → List Token → List SourceFault
-other_faults limits ts =
-    bad_columns ts ++ bad_pictures ts
+-- The faults that tokens have apart from where another one is wanted: by the tokens whose columns count, by those
+-- whose entries count, and by whether further tokens stand behind these.
+abbrev pub other_faults : Limits → Bool → (lined ts : List Token) → List SourceFault
+other_faults limits is_followed lined ts =
+    bad_columns lined ++ bad_pictures ts
     ++ name_faults [] (names_in (described ts)) ++ name_past limits.names (data_names (described ts))
     ++ second_initials (described ts) ++ bad_tables (described ts) ++ clauses_twice (described ts)
-    ++ runs_faults (runs_of ts)
-    ++ characters_past limits.characters 0 (filter is_item (all_but_last (described ts)))
+    ++ runs_faults is_followed (runs_of ts)
+    ++ characters_past limits.characters 0 (filter is_item (whole_entries is_followed (described ts)))
 
+-- The faults of a reading. Where it comes to the word PROCEDURE, this word stands behind all entries, and its column
+-- counts too. Where another token is wanted, the tokens before it count.
 abbrev pub faults_by : Limits → List Token → Reading → List SourceFault
-faults_by limits ts read = other_faults limits (counting ts read) ++ option_to_list (wanted_word ts read)
+faults_by limits ts (ends left) =
+    other_faults limits true (take (length ts - length left) ts) (take (length ts - suc (length left)) ts)
+faults_by limits ts (wanted left) =
+    other_faults limits false (take (before_wanted ts left) ts) (take (before_wanted ts left) ts)
+    ++ option_to_list (wanted_word ts (wanted left))
+
+-- DIVISION is wanted behind the word PROCEDURE. Where that is the last token, the tokens end too early.
+abbrev pub with_procedure : Reading → Reading
+with_procedure (ends []) = wanted 0
+with_procedure (ends (t ∷ ts)) = ends (t ∷ ts)
+with_procedure (wanted left) = wanted left
+
+-- how reading goes up to the word PROCEDURE, and whether a token stands behind it
+abbrev pub division_reading : List Token → Reading
+division_reading ts = with_procedure (reading alternatives_of data_division ts)
 
 -- all faults of the tokens of a source up to the word PROCEDURE
 abbrev pub data_faults : List Token → List SourceFault
-data_faults ts = faults_by limits ts (reading alternatives_of data_division ts)
+data_faults ts = faults_by limits ts (division_reading ts)
 
 -- the fault that is told
 abbrev pub data_fault : List Token → Option SourceFault

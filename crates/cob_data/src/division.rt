@@ -8,7 +8,7 @@ ghost use Rattle.cob_data.specs.Entries.{cd_runs, chosen_word, entries_of, leads
 ghost use Rattle.cob_data.specs.Divisions.{IsDivisionOf, IsTold, cd_named, cds_from, items_by_area, word_behind};
 ghost use Rattle.cob_data.specs.Levels.{records_of};
 ghost use Rattle.cob_forms.specs.Answers.{IsRefused};
-ghost use Rattle.cob_data.specs.Faults.{data_fault, faults_by, limits};
+ghost use Rattle.cob_data.specs.Faults.{data_fault, division_reading, faults_by, limits};
 ghost use Rattle.cob_data.specs.Occurrences.{HasOccurrences};
 
 use crate::cds::cd_body;
@@ -25,17 +25,20 @@ use cob_lex::{MAX_SOURCE, SourceError, SourceFault, Token};
 use com_text::Rows;
 use std::alloc::{AllocError, Global};
 
-/// How many tokens stand before the word PROCEDURE, or how many are left where another is wanted.
+/// How many tokens stand before the word PROCEDURE, or how many are left where another is wanted. Where PROCEDURE
+/// is the last token, the tokens end too early.
 pub(crate) fn procedure_place(tokens: &[Token]) -> Result<usize, Wanted>
-    ensures { MatchResult result (λ place. (reading alternatives_of data_division tokens.now ≡ ends (drop (place + 1) tokens.now)) × (place < length tokens.now))
-        (λ stop. reading alternatives_of data_division tokens.now ≡ wanted stop.left) }
+    ensures { MatchResult result (λ place. (reading alternatives_of data_division tokens.now ≡ ends (drop (place + 1) tokens.now)) × (place + 1 < length tokens.now) × (division_reading tokens.now ≡ ends (drop (place + 1) tokens.now)))
+        (λ stop. division_reading tokens.now ≡ wanted stop.left) }
 {
     let rest = read_parts(DIVISIONS, tokens)?;
-    if next_is_word(rest, b"PROCEDURE") {
-        Ok(tokens.len() - rest.len())
-    } else {
-        Err(Wanted { left: rest.len() })
+    if !next_is_word(rest, b"PROCEDURE") {
+        return Err(Wanted { left: rest.len() });
     }
+    if rest.len() == 1 {
+        return Err(Wanted { left: 0 });
+    }
+    Ok(tokens.len() - rest.len())
 }
 
 /// The first fault of tokens among which another one is wanted.
@@ -48,7 +51,7 @@ fn first_fault_stopped(
     ensures { IfOk result (λ fault. first (faults_by limits tokens.now (wanted stop.left)) ≡ Some fault) }
 {
     let (front, wanted) = split_wanted(tokens, stop.left);
-    let found = first_other_fault(alloc, front)?;
+    let found = first_other_fault(alloc, false, front, front)?;
     Ok(first_with(wanted, found))
 }
 
@@ -59,11 +62,12 @@ fn first_fault_told(
     place: usize,
 ) -> Result<Option<SourceFault>, AllocError>
     requires few { length tokens.now ≤ MAX_SOURCE }
-    requires within { place < length tokens.now }
+    requires within { place + 1 < length tokens.now }
     ensures { IfOk result (λ found. found ≡ first (faults_by limits tokens.now (ends (drop (place + 1) tokens.now)))) }
 {
-    let (front, _) = tokens.split_at(place + 1);
-    first_other_fault(alloc, front)
+    let (before, _) = tokens.split_at(place);
+    let (with_word, _) = tokens.split_at(place + 1);
+    first_other_fault(alloc, true, with_word, before)
 }
 
 /// Where the program's name stands among the tokens, from 0.

@@ -11,7 +11,7 @@
 //! [`data_division`] reads the tokens by tables of the forms (`grammar.rt`), which takes no memory and
 //! tells where another word is wanted. Then it looks for each family of faults among the tokens that
 //! count (`passes.rt`) and answers the first fault of all. Where there is none it takes each entry apart
-//! by what stands in it. That tokens tell one division is a law, `tokens_have_one_division`.
+//! by what stands in it. That tokens without a fault tell a division, and that it is one, are [`laws`].
 //!
 //! [`opening_storage`] makes the areas of a program as they begin. It asks that each table has 1 to 8
 //! destinations, as in the divisions that [`data_division`] answers.
@@ -37,7 +37,7 @@ mod entry;
 mod faults;
 mod grammar;
 mod items;
-mod laws;
+pub mod laws;
 mod levels;
 mod names;
 mod open_levels;
@@ -56,7 +56,6 @@ mod wholes;
 
 pub use characters::MAX_CHARACTERS;
 pub use division::data_division;
-pub use laws::tokens_have_one_division;
 pub use names::MAX_DATA_NAMES;
 pub use opening::opening_storage;
 pub use tree::{

@@ -6,7 +6,7 @@ use Rattle.cob_data.proofs.run_faults.first_run_fault.Given as goal
 
 abbrev pub invariant-runs : goal.invariant-runs
 invariant-runs l = record {
-  left : earlier l.found (first (runs_faults (parted (drop l.place l.entries)).1)) ≡ first (runs_faults (parted l.entries).1);
+  left : earlier l.found (first (runs_faults l.is_followed (parted (drop l.place l.entries)).1)) ≡ first (runs_faults l.is_followed (parted l.entries).1);
   within : l.place ≤ length l.entries;
 }
 
