@@ -6,7 +6,7 @@ use Rattle.std.proofs.lemmas.List.Sums.{sum-map, sum_by-cons}
 use Rattle.cob_lex.specs.declared.token.Token.{Token}
 use Rattle.cob_data.proofs.Fronts.{front_at}
 use Rattle.cob_data.specs.Entries.{picture_in}
-use Rattle.cob_data.specs.Faults.{counted, cover_behind, first_item, is_bad, is_covered, put_unless, record_size}
+use Rattle.cob_data.specs.Faults.{counting_items, cover_behind, first_item, is_bad, is_covered, put_unless, record_size}
 use Rattle.cob_data.specs.Levels.{own_size}
 
 size_by : (b : Bool) (x : List Token) (xs : List (List Token)) → record_size (put_unless b x xs) ≡ (if b then 0 else own_size x) + record_size xs
@@ -19,12 +19,12 @@ bad_by true x xs = refl
 bad_by false x xs = refl
 
 pub size_next : (cover : Option ℕ) (total size whole i : ℕ) (x : List Token) (items : List (List Token)) → i < length items → x ≡ get_or items i x
-    → size ≡ (if is_covered cover x then 0 else own_size x) → total + record_size (counted cover (drop i items)) ≡ whole
-    → total + size + record_size (counted (cover_behind cover x) (drop (i + 1) items)) ≡ whole
+    → size ≡ (if is_covered cover x then 0 else own_size x) → total + record_size (counting_items cover (drop i items)) ≡ whole
+    → total + size + record_size (counting_items (cover_behind cover x) (drop (i + 1) items)) ≡ whole
 size_next cover total size whole i x items within at_place sizes left =
-    let rest = counted (cover_behind cover x) (drop (i + 1) items) in
-    let split : record_size (counted cover (drop i items)) ≡ size + record_size rest =
-    ap (λ ys. record_size (counted cover ys)) (front_at items i x within at_place) ∙ size_by (is_covered cover x) x rest ∙ ap (λ n. n + record_size rest) (sym sizes) in
+    let rest = counting_items (cover_behind cover x) (drop (i + 1) items) in
+    let split : record_size (counting_items cover (drop i items)) ≡ size + record_size rest =
+    ap (λ ys. record_size (counting_items cover ys)) (front_at items i x within at_place) ∙ size_by (is_covered cover x) x rest ∙ ap (λ n. n + record_size rest) (sym sizes) in
     omega (arith, split, left)
 
 bad_parts : (b other : Bool) → b ≡ false → (b || other) ≡ other
@@ -39,20 +39,20 @@ abbrev any_bad : List (List Token) → Bool
 any_bad items = list_any (λ item. is_bad (picture_in item)) items
 
 bad_front : (cover : Option ℕ) (i : ℕ) (x : List Token) (items : List (List Token)) → i < length items → x ≡ get_or items i x
-    → any_bad (counted cover (drop i items)) ≡ (not (is_covered cover x) && is_bad (picture_in x)) || any_bad (counted (cover_behind cover x) (drop (i + 1) items))
+    → any_bad (counting_items cover (drop i items)) ≡ (not (is_covered cover x) && is_bad (picture_in x)) || any_bad (counting_items (cover_behind cover x) (drop (i + 1) items))
 bad_front cover i x items within at_place =
-    ap (λ ys. any_bad (counted cover ys)) (front_at items i x within at_place) ∙ bad_by (is_covered cover x) x (counted (cover_behind cover x) (drop (i + 1) items))
+    ap (λ ys. any_bad (counting_items cover ys)) (front_at items i x within at_place) ∙ bad_by (is_covered cover x) x (counting_items (cover_behind cover x) (drop (i + 1) items))
 
 pub not_bad_next : (cover : Option ℕ) (whole : Bool) (i : ℕ) (x : List Token) (items : List (List Token)) → i < length items → x ≡ get_or items i x
-    → (not (is_covered cover x) && is_bad (picture_in x)) ≡ false → any_bad (counted cover (drop i items)) ≡ whole → any_bad (counted (cover_behind cover x) (drop (i + 1) items)) ≡ whole
+    → (not (is_covered cover x) && is_bad (picture_in x)) ≡ false → any_bad (counting_items cover (drop i items)) ≡ whole → any_bad (counting_items (cover_behind cover x) (drop (i + 1) items)) ≡ whole
 not_bad_next cover whole i x items within at_place good left =
     sym (bad_parts (not (is_covered cover x) && is_bad (picture_in x)) _ good) ∙ sym (bad_front cover i x items within at_place) ∙ left
 
 pub bad_next : (cover : Option ℕ) (whole : Bool) (i : ℕ) (x : List Token) (items : List (List Token)) → i < length items → x ≡ get_or items i x
-    → (not (is_covered cover x) && is_bad (picture_in x)) ≡ true → any_bad (counted cover (drop i items)) ≡ whole → true ≡ whole
+    → (not (is_covered cover x) && is_bad (picture_in x)) ≡ true → any_bad (counting_items cover (drop i items)) ≡ whole → true ≡ whole
 bad_next cover whole i x items within at_place bad left =
     sym (bad_now (not (is_covered cover x) && is_bad (picture_in x)) _ bad) ∙ sym (bad_front cover i x items within at_place) ∙ left
 
-pub first_counted : (items : List (List Token)) → first_item (counted None items) ≡ first_item items
+pub first_counted : (items : List (List Token)) → first_item (counting_items None items) ≡ first_item items
 first_counted [] = refl
 first_counted (x ∷ xs) = refl

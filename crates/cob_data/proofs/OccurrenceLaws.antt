@@ -15,7 +15,7 @@ use Rattle.cob_forms.specs.Forms.{ends}
 use Rattle.cob_data.specs.declared.tree.DataDivision.{DataDivision}
 use Rattle.cob_data.specs.Clauses.{all_clauses, body_of, clauses_of, ends_clause, is_input, lists_names, number_in, output_field_of}
 use Rattle.cob_data.specs.Divisions.{IsDivisionOf, body_by, cd_named, cds_from, output_clause, output_clause_by, output_clauses, storage_records}
-use Rattle.cob_data.specs.Entries.{Run, behind, cd_runs, described, ends_entry, entries_of, first_token, gathered, is_cd, is_item, last_token, parted, pieces, put, runs_of, second_token, told, wants_word}
+use Rattle.cob_data.specs.Entries.{Run, behind, cd_runs, described, ends_entry, entries_of, first_token, put_in_runs, is_cd, is_item, last_token, split_runs, pieces, put, runs_of, second_token, word_flags, wants_word}
 use Rattle.cob_data.specs.Faults.{Limits, at_any, bad_tables, data_fault, data_faults, faults_by, limits, other_faults}
 use Rattle.cob_data.specs.Numerals.{numeral}
 use Rattle.cob_data.specs.Occurrences.{HasOccurrences, is_body_right, is_table_right}
@@ -159,15 +159,15 @@ kept_good (r ∷ runs) h =
     let parts = both (is_good r.head) (list_all (λ r. is_good r.head) runs) h in
     kept_by (is_cd r.head) r runs parts.0 (kept_good runs parts.1)
 
-heads_by : (b : Bool) (entry : List Token) (others : List (List Token) × List Run) → is_good entry ≡ true → list_all (λ r. is_good r.head) others.1 ≡ true → list_all (λ r. is_good r.head) (gathered b entry others).1 ≡ true
+heads_by : (b : Bool) (entry : List Token) (others : List (List Token) × List Run) → is_good entry ≡ true → list_all (λ r. is_good r.head) others.1 ≡ true → list_all (λ r. is_good r.head) (put_in_runs b entry others).1 ≡ true
 heads_by true entry others h k = k
 heads_by false entry others h k = joined (is_good entry) (list_all (λ r. is_good r.head) others.1) h k
 
-heads_good : (entries : List (List Token)) → list_all is_good entries ≡ true → list_all (λ r. is_good r.head) (parted entries).1 ≡ true
+heads_good : (entries : List (List Token)) → list_all is_good entries ≡ true → list_all (λ r. is_good r.head) (split_runs entries).1 ≡ true
 heads_good [] h = refl
 heads_good (entry ∷ entries) h =
     let parts = both (is_good entry) (list_all is_good entries) h in
-    heads_by (is_item entry) entry (parted entries) parts.0 (heads_good entries parts.1)
+    heads_by (is_item entry) entry (split_runs entries) parts.0 (heads_good entries parts.1)
 
 -- ENTRIES
 
@@ -187,10 +187,10 @@ no_bad_table : (l : Limits) (f : Bool) (lined ts : List Token) → other_faults 
 no_bad_table l f lined ts h = behind_none _ _ (front_none _ _ (front_none _ _ (front_none _ _ h)))
 
 pub has_occurrences : (ts : List Token) (place : ℕ) (d : DataDivision) → data_fault ts ≡ None → IsDivisionOf ts place d → HasOccurrences d
-has_occurrences ts place d none told =
+has_occurrences ts place d none word_flags =
     let entries = described (take place ts) in
     let good : list_all is_good entries ≡ true =
-    each_good entries (none_bad (cd_tokens entries) (no_bad_table limits true (take (place + 1) ts) (take place ts) (no_other_fault ts place told.within told.complete none))) in
+    each_good entries (none_bad (cd_tokens entries) (no_bad_table limits true (take (place + 1) ts) (take place ts) (no_other_fault ts place word_flags.within word_flags.complete none))) in
     let runs = runs_of (take place ts) in
-    ap (λ list. list_all (λ entry. is_body_right entry.body) list) (sym told.communication)
+    ap (λ list. list_all (λ entry. is_body_right entry.body) list) (sym word_flags.communication)
     ∙ cds_right (length (storage_records runs)) (cd_runs runs) (kept_good runs (heads_good entries good))

@@ -30,8 +30,8 @@ fn whole_entries<'b, 'a>(is_followed: bool, entries: &'b [Entry<'a>]) -> &'b [En
     all_but_last(entries)
 }
 
-/// The item with which the items have too many characters, of the entries behind which a further token
-/// stands.
+/// The item with which the items have too many characters, of the entries behind which a further
+/// token stands.
 pub(crate) fn first_character_past(is_followed: bool, entries: &[Entry]) -> Option<SourceFault>
     ensures { result ≡ first (characters_past limits.characters 0 (filter is_item (whole_entries is_followed entries.now))) }
 {

@@ -8,7 +8,8 @@ ghost use Rattle.cob_lex.specs.declared.token.Token.{Token};
 
 /// The same tokens say one place of PROCEDURE, and one division.
 pub fn tokens_have_one_division()
-    ensures { (ts : List Token) (p q : ℕ) (d e : DataDivision) → IsDivisionOf ts p d → IsDivisionOf ts q e → (p ≡ q) × (d ≡ e) }
+    ensures { (ts : List Token) (p q : ℕ) (d e : DataDivision) → IsDivisionOf ts p d
+        → IsDivisionOf ts q e → (p ≡ q) × (d ≡ e) }
 {}
 
 /// Tokens without a fault up to the word PROCEDURE say a division.

@@ -4,7 +4,7 @@ ghost use Rattle.std.specs.List.{list_any};
 ghost use Rattle.cob_forms.specs.Faults.{first};
 ghost use Rattle.cob_data.specs.Clauses.{area_length, occurrences, or_one};
 ghost use Rattle.cob_data.specs.Entries.{picture_in, run};
-ghost use Rattle.cob_data.specs.Faults.{counted, cover_behind, extent_length, first_item, is_bad, is_covered, is_record_right, over, rank_if_elementary, record_faults, record_size, size_faults};
+ghost use Rattle.cob_data.specs.Faults.{counting_items, cover_behind, extent_length, first_item, is_bad, is_covered, is_record_right, over, rank_if_elementary, record_faults, record_size, size_faults};
 ghost use Rattle.cob_data.specs.Levels.{below, own_size};
 
 use crate::cds::{is_input, number_in};
@@ -74,7 +74,7 @@ fn is_bad_counted(cover: Option<u64>, item: &Entry) -> bool
 
 /// Whether a picture of the items that count is not formed as one.
 fn has_bad(items: &[Entry]) -> bool
-    ensures { result ≡ list_any (λ item. is_bad (picture_in item)) (counted None items.now) }
+    ensures { result ≡ list_any (λ item. is_bad (picture_in item)) (counting_items None items.now) }
 {
     let mut cover = None;
     for item in items {
@@ -101,7 +101,7 @@ fn counted_size(cover: Option<u64>, item: &Entry) -> u32
 /// How many characters the items that count have together.
 fn record_size(items: &[Entry]) -> u32
     requires { length items.now ≤ MAX_SOURCE }
-    ensures { result ≡ record_size (counted None items.now) }
+    ensures { result ≡ record_size (counting_items None items.now) }
 {
     let mut size = 0;
     let mut cover = None;
@@ -115,7 +115,7 @@ fn record_size(items: &[Entry]) -> u32
 /// The tokens of the first of some items, which always counts.
 #[tactic(auto, using(crate::proofs::CountedLaws::first_counted))]
 fn first_item<'a>(items: &[Entry<'a>]) -> &'a [Token]
-    ensures { result.now ≡ first_item (counted None items.now) }
+    ensures { result.now ≡ first_item (counting_items None items.now) }
 {
     match items.first() {
         Some(item) => item.tokens(),
@@ -145,8 +145,8 @@ fn area_length(entry: &[Token]) -> u64
     }
 }
 
-/// How many characters each record behind a header or a CD entry has to have: behind a CD entry, as many as
-/// its area.
+/// How many characters each record behind a header or a CD entry has to have: behind a CD entry, as
+/// many as its area.
 pub(crate) fn over(head: &[Token]) -> Option<u64>
     ensures { result ≡ over (run head.now []) }
 {
@@ -190,8 +190,8 @@ pub(crate) fn extent_length(items: &[Entry]) -> usize
     }
 }
 
-/// The first fault of the size of the item that begins a record, by how many characters the area has that it is
-/// over.
+/// The first fault of the size of the item that begins a record, by how many characters the area
+/// has that it is over.
 pub(crate) fn first_record_fault(area: Option<u64>, items: &[Entry]) -> Option<SourceFault>
     requires { length items.now ≤ MAX_SOURCE }
     ensures { result ≡ first (record_faults area items.now) }
@@ -200,11 +200,11 @@ pub(crate) fn first_record_fault(area: Option<u64>, items: &[Entry]) -> Option<S
     first_size_fault(area, these)
 }
 
-/// The first fault of the size of the items that count together. Where a picture of them is not formed as one, no
-/// more is said.
+/// The first fault of the size of the items that count together. Where a picture of them is not
+/// formed as one, no more is said.
 fn first_size_fault(area: Option<u64>, items: &[Entry]) -> Option<SourceFault>
     requires { length items.now ≤ MAX_SOURCE }
-    ensures { result ≡ first (size_faults area (counted None items.now)) }
+    ensures { result ≡ first (size_faults area (counting_items None items.now)) }
 {
     let is_bad = has_bad(items);
     let size = record_size(items);

@@ -3,7 +3,7 @@ use Rattle.std.proofs.lemmas.Result.{IfOk-weaker}
 use Rattle.cob_forms.specs.Faults.{first}
 use Rattle.cob_data.specs.Faults.{limits, other_faults}
 use Rattle.cob_data.proofs.Joined.{ended}
-use Rattle.cob_data.proofs.division.first_fault_told.Goals as goal
+use Rattle.cob_data.proofs.division.first_fault_before_procedure.Goals as goal
 
 pub returns : goal.returns
 returns c =
