@@ -28,8 +28,8 @@ const INPUT_WORDS: [(&[u8], InField); 11] = [
     (b"COUNT", InField::Count),
 ];
 
-/// The words by which the clauses of an output CD are told apart, with None for the clause of its table.
-/// DESTINATION is the last, since DESTINATION COUNT and DESTINATION TABLE have it too.
+/// The words by which the clauses of an output CD are told apart, with None for the clause of its
+/// table. DESTINATION is the last, since DESTINATION COUNT and DESTINATION TABLE have it too.
 const OUTPUT_WORDS: [(&[u8], Option<OutField>); 6] = [
     (b"COUNT", Some(OutField::Count)),
     (b"LENGTH", Some(OutField::Length)),
@@ -135,7 +135,8 @@ impl<'a> Clauses<'a> {
 
     /// The next clause, unless it is the last and nothing stands behind it.
     pub(crate) fn next(&mut self) -> Option<&'a [Token]>
-        ensures { MatchOption result ((self.old ≡ []) × (self.new ≡ [])) (λ clause. self.old ≡ clause.now ∷ self.new) }
+        ensures { MatchOption result ((self.old ≡ []) × (self.new ≡ []))
+            (λ clause. self.old ≡ clause.now ∷ self.new) }
     {
         let (clause, rest) = self.rest.split_at(clause_length(self.rest));
         self.rest = rest;
@@ -164,7 +165,9 @@ fn output_field(clause: &[Token]) -> Option<Option<OutField>>
 
 /// What the first pair says whose word stands in a clause.
 fn first_field<F: Copy>(pairs: &[(&'static [u8], F)], clause: &[Token]) -> Option<F>
-    ensures { result ≡ option_map {T = List ℕ × F} (λ pair. pair.1) (find (λ pair. has pair.0 clause.now) (map (λ pair. (pair.0.now, pair.1)) pairs.now)) }
+    ensures { result ≡ option_map {T = List ℕ × F}
+        (λ pair. pair.1) (find
+        (λ pair. has pair.0 clause.now) (map (λ pair. (pair.0.now, pair.1)) pairs.now)) }
 {
     'pairs: for pair in pairs {
         if has(clause, pair.0) {
@@ -176,7 +179,8 @@ fn first_field<F: Copy>(pairs: &[(&'static [u8], F)], clause: &[Token]) -> Optio
 
 /// The word of the first pair whose word stands in a clause.
 fn first_word<F: Copy>(pairs: &[(&'static [u8], F)], clause: &[Token]) -> &'static [u8]
-    ensures { result.now ≡ unwrap_or (find (λ word. has word clause.now) (map (λ pair. pair.0.now) pairs.now)) [] }
+    ensures { result.now
+        ≡ unwrap_or (find (λ word. has word clause.now) (map (λ pair. pair.0.now) pairs.now)) [] }
 {
     'pairs: for pair in pairs {
         if has(clause, pair.0) {
@@ -232,7 +236,9 @@ fn input_clauses(alloc: Global, entry: &[Token]) -> Result<Vec<InputClause>, All
 
 /// Adds a clause of an input CD.
 fn put_input_clause(clause: &[Token], list: &mut Vec<InputClause>) -> Result<(), AllocError>
-    ensures { IfOk result (λ _. list.new.items ≡ list.old.items ++ input_clause (input_field_of clause.now) (first_token clause.now) (last_token clause.now)) }
+    ensures { IfOk result
+        (λ _. list.new.items ≡ list.old.items
+        ++ input_clause (input_field_of clause.now) (first_token clause.now) (last_token clause.now)) }
 {
     let Some(field) = input_field(clause) else {
         return Ok(());
@@ -265,7 +271,9 @@ fn output_clauses(alloc: Global, entry: &[Token]) -> Result<Vec<OutputClause>, A
 
 /// Adds a clause of an output CD.
 fn put_output_clause(clause: &[Token], list: &mut Vec<OutputClause>) -> Result<(), AllocError>
-    ensures { IfOk result (λ _. list.new.items ≡ list.old.items ++ output_clause (output_field_of clause.now) (first_token clause.now) (last_token clause.now) (number_in clause.now)) }
+    ensures { IfOk result
+        (λ _. list.new.items ≡ list.old.items
+        ++ output_clause (output_field_of clause.now) (first_token clause.now) (last_token clause.now) (number_in clause.now)) }
 {
     let Some(field) = output_field(clause) else {
         return Ok(());
@@ -289,7 +297,9 @@ fn output_clause(
     named: &Token,
     clause: &[Token],
 ) -> Result<Option<OutputClause>, AllocError>
-    ensures { IfOk result (λ found. option_to_list found ≡ output_clause_by field first.now named.now (number_in clause.now)) }
+    ensures { IfOk result
+        (λ found. option_to_list found
+        ≡ output_clause_by field first.now named.now (number_in clause.now)) }
 {
     let position = Position::of(first);
     if let Some(field) = field {
@@ -345,7 +355,8 @@ fn initial_of(entry: &[Token]) -> Option<Position>
 
 /// The body of a CD entry.
 pub(crate) fn cd_body(alloc: Global, entry: &[Token]) -> Result<CdBody, AllocError>
-    ensures { IfOk result (λ body. body ≡ body_by (is_input entry.now) (lists_names (body_of entry.now)) entry.now) }
+    ensures { IfOk result
+        (λ body. body ≡ body_by (is_input entry.now) (lists_names (body_of entry.now)) entry.now) }
 {
     let body = body_of(entry);
     if !is_input(entry) {

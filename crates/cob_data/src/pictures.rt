@@ -51,8 +51,8 @@ fn characters(unit: u8, picture: &[u8]) -> Option<u32>
     Some(total)
 }
 
-/// For how many characters a unit stands, or [`PAST`] where they are more, by what is behind it; and how
-/// many bytes the count has.
+/// For how many characters a unit stands, or [`PAST`] where they are more, by what is behind it;
+/// and how many bytes the count has.
 fn count_at(behind: &[u8]) -> (u32, usize)
     ensures count { result.0 ≡ min (unit_by behind.now).0 PAST }
     ensures counted { result.1 ≡ (unit_by behind.now).1 }

@@ -1,12 +1,12 @@
-//! What the divisions before the Procedure Division are made of. Each part of a form is a field, in written
-//! order.
+//! What the divisions before the Procedure Division are made of. Each part of a form is a field, in
+//! written order.
 use cob_forms::{Literal, Name, Number, Position};
 use com_cd::{InField, OutField};
 use com_text::{Rows, Text};
 
-/// The divisions of a program up to the word PROCEDURE, named by the last of them: the program's name, the words of
-/// SOURCE-COMPUTER and OBJECT-COMPUTER where they are written, and the two sections of the Data
-/// Division.
+/// The divisions of a program up to the word PROCEDURE, named by the last of them: the program's
+/// name, the words of SOURCE-COMPUTER and OBJECT-COMPUTER where they are written, and the two
+/// sections of the Data Division.
 #[derive(Debug, Drop)]
 pub struct DataDivision {
     pub program: Name,
@@ -26,9 +26,9 @@ pub struct Item {
     pub place: ItemPlace,
 }
 
-/// Where the characters of an item are: the number of its area, from 0, their place there, from 0, how
-/// many they are, and their sort. The areas are those of the records of Working-Storage, in written
-/// order, and then those of the CDs. A record over a CD is in the area of the CD.
+/// Where the characters of an item are: the number of its area, from 0, their place there, from 0,
+/// how many they are, and their sort. The areas are those of the records of Working-Storage, in
+/// written order, and then those of the CDs. A record over a CD is in the area of the CD.
 #[derive(Clone, Copy, Debug, PartialEq, Eq)]
 pub struct ItemPlace {
     pub area: u32,
