@@ -5,7 +5,7 @@ use Rattle.cob_lex.specs.declared.fault.SourceFault.{SourceFault}
 use Rattle.cob_lex.specs.declared.fault.SourceKind.TheVariants as faults
 use Rattle.cob_lex.specs.declared.token.Token.{Token}
 use Rattle.cob_forms.specs.Faults.{earlier, first, noted}
-use Rattle.cob_data.specs.Faults.{column_faults, is_in_place, line_behind, marked, unless}
+use Rattle.cob_data.specs.Faults.{column_faults, is_in_place, line_behind, begin_flags, unless}
 use Rattle.cob_data.proofs.Firsts.{no_other, one_more}
 
 -- tokens of an entry, of which the first begins it or not
@@ -17,7 +17,7 @@ pub marked_behind : (ts : List Token) → marked_from false ts ≡ map (λ u. (f
 marked_behind [] = refl
 marked_behind (t ∷ ts) = refl
 
-pub marked_all : (word : Bool) (ts : List Token) → marked word ts ≡ marked_from (not word) ts
+pub marked_all : (word : Bool) (ts : List Token) → begin_flags word ts ≡ marked_from (not word) ts
 marked_all word [] = refl
 marked_all word (t ∷ ts) = refl
 

@@ -8,7 +8,7 @@ use Rattle.std.proofs.lemmas.Grind.{common_steps}
 use Rattle.std.proofs.lemmas.Bool.Decides.{nat_tests}
 use Rattle.cob_lex.specs.declared.token.Token.{Token}
 use Rattle.cob_data.specs.Clauses.{all_clauses, ends_clause}
-use Rattle.cob_data.specs.Entries.{run, put, pieces, piece_length, ends_entry, entries_of, all_but_last, told, wants_word, is_item, gathered, parted}
+use Rattle.cob_data.specs.Entries.{run, put, pieces, piece_length, ends_entry, entries_of, all_but_last, word_flags, wants_word, is_item, put_in_runs, split_runs}
 use Rattle.cob_data.specs.Levels.{is_record, joined, split}
 
 -- THE FIRST PIECE
@@ -52,41 +52,41 @@ stops test (y ∷ ys) x behind h =
 
 -- RUNS
 
-run_here : (entry : List Token) (entries : List (List Token)) → is_item entry ≡ false → (parted (entry ∷ entries)).1 ≡ run entry (parted entries).0 ∷ (parted entries).1
+run_here : (entry : List Token) (entries : List (List Token)) → is_item entry ≡ false → (split_runs (entry ∷ entries)).1 ≡ run entry (split_runs entries).0 ∷ (split_runs entries).1
 run_here entry entries h = rw h refl
 
-items_by : (b : Bool) (entry : List Token) (entries : List (List Token)) → (parted entries).0 ≡ take_while is_item entries
-    → (gathered b entry (parted entries)).0 ≡ cond b (entry ∷ take_while is_item entries) []
+items_by : (b : Bool) (entry : List Token) (entries : List (List Token)) → (split_runs entries).0 ≡ take_while is_item entries
+    → (put_in_runs b entry (split_runs entries)).0 ≡ cond b (entry ∷ take_while is_item entries) []
 items_by true entry entries h = ap (λ xs. entry ∷ xs) h
 items_by false entry entries h = refl
 
-items_here : (entries : List (List Token)) → (parted entries).0 ≡ take_while is_item entries
+items_here : (entries : List (List Token)) → (split_runs entries).0 ≡ take_while is_item entries
 items_here [] = refl
 items_here (entry ∷ entries) = items_by (is_item entry) entry entries (items_here entries) ∙ sym (take_while-cons is_item entry entries)
 
-runs_by : (b : Bool) (entry : List Token) (entries : List (List Token)) → is_item entry ≡ b → (parted entries).1 ≡ (parted (drop (length (take_while is_item entries)) entries)).1
-    → (gathered b entry (parted entries)).1 ≡ (parted (drop (length (cond b (entry ∷ take_while is_item entries) [])) (entry ∷ entries))).1
+runs_by : (b : Bool) (entry : List Token) (entries : List (List Token)) → is_item entry ≡ b → (split_runs entries).1 ≡ (split_runs (drop (length (take_while is_item entries)) entries)).1
+    → (put_in_runs b entry (split_runs entries)).1 ≡ (split_runs (drop (length (cond b (entry ∷ take_while is_item entries) [])) (entry ∷ entries))).1
 runs_by true entry entries h k = k
 runs_by false entry entries h k = rw h refl
 
-runs_behind : (entries : List (List Token)) → (parted entries).1 ≡ (parted (drop (length (take_while is_item entries)) entries)).1
+runs_behind : (entries : List (List Token)) → (split_runs entries).1 ≡ (split_runs (drop (length (take_while is_item entries)) entries)).1
 runs_behind [] = refl
 runs_behind (entry ∷ entries) =
     runs_by (is_item entry) entry entries refl (runs_behind entries)
-    ∙ ap (λ xs. (parted (drop (length xs) (entry ∷ entries))).1) (sym (take_while-cons is_item entry entries))
+    ∙ ap (λ xs. (split_runs (drop (length xs) (entry ∷ entries))).1) (sym (take_while-cons is_item entry entries))
 
 pub next_run : (entries rest behind items others : List (List Token)) (head : List Token) (n m : ℕ) → n ≡ length (take_while is_item entries) → rest ≡ drop n entries → rest ≡ head ∷ behind
-    → m ≡ length (take_while is_item behind) → items ≡ take m behind → others ≡ drop m behind → (parted entries).1 ≡ run head items ∷ (parted others).1
+    → m ≡ length (take_while is_item behind) → items ≡ take m behind → others ≡ drop m behind → (split_runs entries).1 ≡ run head items ∷ (split_runs others).1
 next_run entries rest behind items others head n m size left front count at_items at_others =
     let here : drop (length (take_while is_item entries)) entries ≡ head ∷ behind = ap (λ k. drop k entries) (sym size) ∙ sym left ∙ front in
-    let these : (parted behind).0 ≡ items = items_here behind ∙ sym (front_taken is_item behind) ∙ ap (λ k. take k behind) (sym count) ∙ sym at_items in
-    let those : (parted behind).1 ≡ (parted others).1 = runs_behind behind ∙ ap (λ k. (parted (drop k behind)).1) (sym count) ∙ ap (λ xs. (parted xs).1) (sym at_others) in
-    runs_behind entries ∙ ap (λ xs. (parted xs).1) here ∙ run_here head behind (stops is_item entries head behind here)
-    ∙ ap (λ xs. run head xs ∷ (parted behind).1) these ∙ ap (λ runs. run head items ∷ runs) those
+    let these : (split_runs behind).0 ≡ items = items_here behind ∙ sym (front_taken is_item behind) ∙ ap (λ k. take k behind) (sym count) ∙ sym at_items in
+    let those : (split_runs behind).1 ≡ (split_runs others).1 = runs_behind behind ∙ ap (λ k. (split_runs (drop k behind)).1) (sym count) ∙ ap (λ xs. (split_runs xs).1) (sym at_others) in
+    runs_behind entries ∙ ap (λ xs. (split_runs xs).1) here ∙ run_here head behind (stops is_item entries head behind here)
+    ∙ ap (λ xs. run head xs ∷ (split_runs behind).1) these ∙ ap (λ runs. run head items ∷ runs) those
 
-pub no_next_run : (entries rest : List (List Token)) (n : ℕ) → n ≡ length (take_while is_item entries) → rest ≡ drop n entries → rest ≡ [] → (parted entries).1 ≡ []
+pub no_next_run : (entries rest : List (List Token)) (n : ℕ) → n ≡ length (take_while is_item entries) → rest ≡ drop n entries → rest ≡ [] → (split_runs entries).1 ≡ []
 no_next_run entries rest n size left none =
-    runs_behind entries ∙ ap (λ k. (parted (drop k entries)).1) (sym size) ∙ ap (λ xs. (parted xs).1) (sym left ∙ none)
+    runs_behind entries ∙ ap (λ k. (split_runs (drop k entries)).1) (sym size) ∙ ap (λ xs. (split_runs xs).1) (sym left ∙ none)
 
 -- RECORDS
 
@@ -140,7 +140,7 @@ no_next_record items rest n size left none =
 -- THE NEXT ENTRY
 
 pub next_entry : (word next : Bool) (ts front back : List Token) (n : ℕ) → 1 ≤ length ts → n ≡ piece_length ends_entry ts → front ≡ take n ts → back ≡ drop n ts → next ≡ (not word && wants_word front)
-    → told word (entries_of ts) ≡ (word, front) ∷ told next (entries_of back)
+    → word_flags word (entries_of ts) ≡ (word, front) ∷ word_flags next (entries_of back)
 next_entry word next [] front back n some size at_front behind flag = absurd (omega (arith, some))
 next_entry word next (t ∷ ts) front back n some size at_front behind flag = rw flag (rw behind (rw at_front (rw size (rw (first_piece ends_entry t ts) refl))))
 
@@ -194,16 +194,16 @@ behind_both from skipped size past xs left rest others at_left at_rest at_others
 
 pub run_from : (entries left rest behind items : List (List Token)) (head : List Token) (from skipped count past : ℕ) → left ≡ drop from entries → skipped ≡ length (take_while is_item left) → rest ≡ drop skipped left
     → rest ≡ head ∷ behind → count ≡ length (take_while is_item behind) → items ≡ take count behind → past ≡ from + skipped + 1 + count
-    → (parted (drop from entries)).1 ≡ run head items ∷ (parted (drop past entries)).1
+    → (split_runs (drop from entries)).1 ≡ run head items ∷ (split_runs (drop past entries)).1
 run_from entries left rest behind items head from skipped count past at_left skips at_rest front counts at_items sum =
     let size : 1 + count ≡ suc count = omega arith in
     let sums : past ≡ from + skipped + (1 + count) = omega (arith, sum) in
     let others : drop count behind ≡ drop (1 + count) rest = ap (drop (suc count)) (sym front) ∙ ap (λ k. drop k rest) (sym size) in
-    ap (λ xs. (parted xs).1) (sym at_left) ∙ next_run left rest behind items (drop count behind) head skipped count skips at_rest front counts at_items refl
-    ∙ ap (λ xs. run head items ∷ (parted xs).1) (behind_both from skipped (1 + count) past entries left rest (drop count behind) at_left at_rest others sums)
+    ap (λ xs. (split_runs xs).1) (sym at_left) ∙ next_run left rest behind items (drop count behind) head skipped count skips at_rest front counts at_items refl
+    ∙ ap (λ xs. run head items ∷ (split_runs xs).1) (behind_both from skipped (1 + count) past entries left rest (drop count behind) at_left at_rest others sums)
 
-pub no_run_from : (entries left rest : List (List Token)) (from skipped : ℕ) → left ≡ drop from entries → skipped ≡ length (take_while is_item left) → rest ≡ drop skipped left → rest ≡ [] → (parted (drop from entries)).1 ≡ []
-no_run_from entries left rest from skipped at_left skips at_rest none = ap (λ xs. (parted xs).1) (sym at_left) ∙ no_next_run left rest skipped skips at_rest none
+pub no_run_from : (entries left rest : List (List Token)) (from skipped : ℕ) → left ≡ drop from entries → skipped ≡ length (take_while is_item left) → rest ≡ drop skipped left → rest ≡ [] → (split_runs (drop from entries)).1 ≡ []
+no_run_from entries left rest from skipped at_left skips at_rest none = ap (λ xs. (split_runs xs).1) (sym at_left) ∙ no_next_run left rest skipped skips at_rest none
 
 pub record_from : (items left rest behind whole : List (List Token)) (first : List Token) (from skipped below count past : ℕ) → left ≡ drop from items → skipped ≡ length (take_while is_below left) → rest ≡ drop skipped left
     → rest ≡ first ∷ behind → below ≡ length (take_while is_below behind) → count ≡ 1 + below → whole ≡ take count rest → past ≡ from + skipped + count

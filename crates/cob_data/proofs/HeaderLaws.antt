@@ -13,8 +13,8 @@ use Rattle.cob_data.specs.Forms as all
 use Rattle.cob_forms.specs.Written.{name_of}
 use Rattle.cob_data.specs.declared.tree.CdEntry.{CdEntry}
 use Rattle.cob_data.specs.declared.tree.DataDivision.{DataDivision}
-use Rattle.cob_data.specs.Divisions.{IsDivisionOf, IsTold, cd_named, communication_of, word_behind, working_storage_of}
-use Rattle.cob_data.specs.Entries.{Run, second_token, chosen_word, described, ends_entry, entries_of, first_token, leads, pieces, put, told, wants_word}
+use Rattle.cob_data.specs.Divisions.{IsDivisionOf, IsDivisionBefore, cd_named, communication_of, word_behind, working_storage_of}
+use Rattle.cob_data.specs.Entries.{Run, second_token, chosen_word, described, ends_entry, entries_of, first_token, leads, pieces, put, word_flags, wants_word}
 
 -- WORDS BEHIND HEADERS
 
@@ -47,7 +47,7 @@ pieces_fit : (ends_piece : Token → List Token → Bool) (ts : List Token) → 
 pieces_fit ends_piece [] = omega arith
 pieces_fit ends_piece (t ∷ ts) = omega (arith, put_length (ends_piece t ts) t (pieces ends_piece ts), pieces_fit ends_piece ts)
 
-told_length : (word : Bool) (entries : List (List Token)) → length (told word entries) ≡ length entries
+told_length : (word : Bool) (entries : List (List Token)) → length (word_flags word entries) ≡ length entries
 told_length word [] = refl
 told_length word (entry ∷ entries) = ap suc (told_length (not word && wants_word entry) entries)
 
@@ -65,7 +65,7 @@ mapped f (x ∷ xs) = ap suc (mapped f xs)
 
 pub described_fit : (ts : List Token) → length (described ts) ≤ length ts
 described_fit ts =
-    let entries = told false (entries_of ts) in
+    let entries = word_flags false (entries_of ts) in
     omega (arith, mapped (λ x. x.1) (filter (λ x. not x.0) entries), kept_fit (λ x. not x.0) entries, told_length false (entries_of ts), pieces_fit ends_entry ts)
 
 -- so far, with what is left
@@ -108,7 +108,7 @@ tokens_of (sort ∷ sorts) parts = token sort ∷ tokens_of sorts parts
 not_wanted : (left : ℕ) (rest : List Token) → wanted left ≡ ends rest → ⊥
 not_wanted left rest h = cc
 
-step_by : (b : Bool) (parts : List (Part Form)) (us rest : List Token) (n : ℕ) → goes_on (if b then Some parts else None) (λ left. reading alternatives_of left us) n ≡ ends rest → reading alternatives_of parts us ≡ ends rest
+pub step_by : (b : Bool) (parts : List (Part Form)) (us rest : List Token) (n : ℕ) → goes_on (if b then Some parts else None) (λ left. reading alternatives_of left us) n ≡ ends rest → reading alternatives_of parts us ≡ ends rest
 step_by true parts us rest n h = h
 step_by false parts us rest n h = absurd (not_wanted n rest h)
 
@@ -146,7 +146,7 @@ pub no_second : (list : List CdEntry) (head : List Token) (area : ℕ) (cd : Run
 no_second list head area cd h = rw (none_at head 1 h) (nothing_added list)
 
 pub told_division : (ts before : List Token) (named : Token) (place : ℕ) (d : DataDivision) → reading alternatives_of data_division ts ≡ ends (drop (place + 1) ts) → place < length ts → before ≡ take place ts → named ≡ get_or ts 5 named
-    → IsTold named before d → IsDivisionOf ts place d
+    → IsDivisionBefore named before d → IsDivisionOf ts place d
 told_division ts before named place d read inside front at_name is_told = record {
   complete = read;
   within = inside;

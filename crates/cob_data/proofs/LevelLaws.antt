@@ -13,12 +13,12 @@ use Rattle.cob_data.specs.declared.open_levels.Level.{Level}
 use Rattle.cob_data.specs.Entries.{first_token}
 use Rattle.cob_data.specs.Levels.{is_group, rank, sort_of_item}
 use Rattle.cob_data.specs.Faults.{is_as, is_level_right, is_under_group, level_faults, unless}
-use Rattle.cob_data.specs.OpenLevels.{closed, is_level_under, is_under, open_faults, opened, stands_under}
+use Rattle.cob_data.specs.OpenLevels.{closed, is_level_under, is_under, open_faults, open_after, stands_under}
 
 -- The levels that are open behind some items, of which the last is first. This is what the code keeps of them.
 abbrev pub levels_of : List (List Token) → List Level
 levels_of [] = []
-levels_of (x ∷ before) = opened x (levels_of before)
+levels_of (x ∷ before) = open_after x (levels_of before)
 
 -- `is_under_group` over the open levels alone
 abbrev is_below : ℕ → Option ℕ → List Level → Bool
@@ -92,7 +92,7 @@ levels_tell over_cd before (item ∷ items) =
 
 pub level_next : (over_cd : Bool) (found whole : Option SourceFault) (levels : List Level) (items : List (List Token)) (i : ℕ) (item : List Token) → i < length items → item ≡ get_or items i item
     → earlier found (first (open_faults over_cd levels (drop i items))) ≡ whole
-    → earlier (earlier found (first (unless (is_level_under over_cd (stands_under (rank item) levels) item) faults.WrongKind (first_token item)))) (first (open_faults over_cd (opened item levels) (drop (i + 1) items))) ≡ whole
+    → earlier (earlier found (first (unless (is_level_under over_cd (stands_under (rank item) levels) item) faults.WrongKind (first_token item)))) (first (open_faults over_cd (open_after item levels) (drop (i + 1) items))) ≡ whole
 level_next over_cd found whole levels items i item within at_place left =
-    one_more found (unless (is_level_under over_cd (stands_under (rank item) levels) item) faults.WrongKind (first_token item)) (open_faults over_cd (opened item levels) (drop (i + 1) items))
+    one_more found (unless (is_level_under over_cd (stands_under (rank item) levels) item) faults.WrongKind (first_token item)) (open_faults over_cd (open_after item levels) (drop (i + 1) items))
     ∙ ap (λ xs. earlier found (first (open_faults over_cd levels xs))) (sym (front_at items i item within at_place)) ∙ left

@@ -19,8 +19,11 @@ pub mod OccurrenceLaws
 pub mod ColumnSteps
 pub mod SeenTexts
 pub mod NamePasses
+pub mod NoFaults
+pub mod SomeDivision
 pub mod ClausePasses
 pub mod Joined
+pub mod CountedLaws
 mod WorkedLevels
 mod WorkedHeaders
 mod WorkedLimits

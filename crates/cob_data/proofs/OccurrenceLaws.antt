@@ -4,6 +4,7 @@ use Rattle.std.specs.Prelude.{cond, if◌then◌else◌, nat_le}
 use Rattle.std.specs.List.{list_all}
 use Rattle.std.proofs.lemmas.List.Folds.{list_all-append}
 use Rattle.com_cd.specs.declared.output_area.TheConstants.{MAX_OCCURRENCES}
+use Rattle.com_cd.specs.declared.output_area.OutField.{OutField}
 use Rattle.cob_lex.specs.declared.fault.SourceFault.{SourceFault}
 use Rattle.cob_lex.specs.declared.fault.SourceKind.TheVariants as faults
 use Rattle.cob_lex.specs.declared.token.Token.{Token}
@@ -12,13 +13,14 @@ use Rattle.cob_forms.specs.Sorts.{is, of_kind, reserved}
 use Rattle.cob_forms.specs.Faults.{earlier, first, is_before}
 use Rattle.cob_forms.specs.Forms.{ends}
 use Rattle.cob_data.specs.declared.tree.DataDivision.{DataDivision}
-use Rattle.cob_data.specs.Clauses.{OutputField, destination_count, text_length, status_key, destination_table, error_key, destination, all_clauses, body_of, clauses_of, ends_clause, is_input, lists_names, number_in, output_field_of}
+use Rattle.cob_data.specs.Clauses.{all_clauses, body_of, clauses_of, ends_clause, is_input, lists_names, number_in, output_field_of}
 use Rattle.cob_data.specs.Divisions.{IsDivisionOf, body_by, cd_named, cds_from, output_clause, output_clause_by, output_clauses, storage_records}
-use Rattle.cob_data.specs.Entries.{Run, behind, cd_runs, described, ends_entry, entries_of, first_token, gathered, is_cd, is_item, last_token, parted, pieces, put, runs_of, second_token, told, wants_word}
+use Rattle.cob_data.specs.Entries.{Run, behind, cd_runs, described, ends_entry, entries_of, first_token, put_in_runs, is_cd, is_item, last_token, split_runs, pieces, put, runs_of, second_token, word_flags, wants_word}
 use Rattle.cob_data.specs.Faults.{Limits, at_any, bad_tables, data_fault, data_faults, faults_by, limits, other_faults}
 use Rattle.cob_data.specs.Numerals.{numeral}
 use Rattle.cob_data.specs.Occurrences.{HasOccurrences, is_body_right, is_table_right}
 use Rattle.cob_data.proofs.Firsts.{cd_tokens}
+use Rattle.cob_data.proofs.NoFaults.{behind_none, front_none, no_other_fault}
 use Rattle.cob_data.proofs.NumeralLaws.{both, joined}
 
 -- LISTS THAT PASS A TEST
@@ -77,16 +79,12 @@ number_within (x ∷ xs) t found good = number_by (is (of_kind tokens.Number) x)
 
 -- CLAUSES
 
-clause_right : (field : OutputField) (first named : Token) (occurs : Option Token) → ((t : Token) → occurs ≡ Some t → within t ≡ true) → list_all is_table_right (output_clause_by field first named occurs) ≡ true
-clause_right destination_count first named occurs h = refl
-clause_right text_length first named occurs h = refl
-clause_right status_key first named occurs h = refl
-clause_right destination_table first named (Some t) h = joined (within t) true (h t refl) refl
-clause_right destination_table first named None h = refl
-clause_right error_key first named occurs h = refl
-clause_right destination first named occurs h = refl
+clause_right : (field : Option OutField) (first named : Token) (occurs : Option Token) → ((t : Token) → occurs ≡ Some t → within t ≡ true) → list_all is_table_right (output_clause_by field first named occurs) ≡ true
+clause_right (Some field) first named occurs h = refl
+clause_right None first named (Some t) h = joined (within t) true (h t refl) refl
+clause_right None first named None h = refl
 
-told_right : (field : Option OutputField) (first named occurs : Option Token) → ((t : Token) → occurs ≡ Some t → within t ≡ true) → list_all is_table_right (output_clause field first named occurs) ≡ true
+told_right : (field : Option (Option OutField)) (first named occurs : Option Token) → ((t : Token) → occurs ≡ Some t → within t ≡ true) → list_all is_table_right (output_clause field first named occurs) ≡ true
 told_right (Some field) (Some first) (Some named) occurs h = clause_right field first named occurs h
 told_right (Some field) (Some first) None occurs h = refl
 told_right (Some field) None named occurs h = refl
@@ -161,20 +159,17 @@ kept_good (r ∷ runs) h =
     let parts = both (is_good r.head) (list_all (λ r. is_good r.head) runs) h in
     kept_by (is_cd r.head) r runs parts.0 (kept_good runs parts.1)
 
-heads_by : (b : Bool) (entry : List Token) (others : List (List Token) × List Run) → is_good entry ≡ true → list_all (λ r. is_good r.head) others.1 ≡ true → list_all (λ r. is_good r.head) (gathered b entry others).1 ≡ true
+heads_by : (b : Bool) (entry : List Token) (others : List (List Token) × List Run) → is_good entry ≡ true → list_all (λ r. is_good r.head) others.1 ≡ true → list_all (λ r. is_good r.head) (put_in_runs b entry others).1 ≡ true
 heads_by true entry others h k = k
 heads_by false entry others h k = joined (is_good entry) (list_all (λ r. is_good r.head) others.1) h k
 
-heads_good : (entries : List (List Token)) → list_all is_good entries ≡ true → list_all (λ r. is_good r.head) (parted entries).1 ≡ true
+heads_good : (entries : List (List Token)) → list_all is_good entries ≡ true → list_all (λ r. is_good r.head) (split_runs entries).1 ≡ true
 heads_good [] h = refl
 heads_good (entry ∷ entries) h =
     let parts = both (is_good entry) (list_all is_good entries) h in
-    heads_by (is_item entry) entry (parted entries) parts.0 (heads_good entries parts.1)
+    heads_by (is_item entry) entry (split_runs entries) parts.0 (heads_good entries parts.1)
 
 -- ENTRIES
-
-good_entries : Bool → List (List Token) → Bool
-good_entries word entries = list_all is_good (map (λ x. x.1) (filter (λ x. not x.0) (told word entries)))
 
 own_by : (b : Bool) (entry : List Token) (entries : List (List Token)) → are_good (flat_map (λ e. e) (cond b (entry ∷ filter is_cd entries) (filter is_cd entries))) ≡ true
     → (are_good (cd_tokens entries) ≡ true → list_all is_good entries ≡ true) → ((not b || are_good entry) && list_all is_good entries) ≡ true
@@ -186,115 +181,16 @@ each_good : (entries : List (List Token)) → are_good (cd_tokens entries) ≡ t
 each_good [] h = refl
 each_good (entry ∷ entries) h = own_by (is_cd entry) entry entries h (each_good entries)
 
--- WITH TOKENS BEHIND
-
--- The entries of tokens with others behind them: the last one may go on there.
-data Extends : List (List Token) → List (List Token) → Type 0 where
-  none_there : {later : List (List Token)} → Extends [] later
-  goes_on : {entry other : List Token} {later : List (List Token)} (more : List Token) → other ≡ entry ++ more → Extends (entry ∷ []) (other ∷ later)
-  stays : {entry : List Token} {entries later : List (List Token)} → Extends entries later → Extends (entry ∷ entries) (entry ∷ later)
-
-put_extends : (b : Bool) (t : Token) (entries later : List (List Token)) → Extends entries later → Extends (put b t entries) (put b t later)
-put_extends true t entries later h = stays h
-put_extends false t [] [] h = stays none_there
-put_extends false t [] (e ∷ later) h = goes_on e refl
-put_extends false t (e ∷ entries) [] h = elim h [ ]
-put_extends false t (e ∷ entries) (other ∷ later) (goes_on more front) = goes_on more (ap (λ ts. t ∷ ts) front)
-put_extends false t (e ∷ entries) (other ∷ later) (stays h) = stays h
-
-extends : (ts us : List Token) → Extends (entries_of ts) (entries_of (ts ++ us))
-extends [] us = none_there
-extends (t ∷ ts) us = put_extends (ends_entry t ts) t (entries_of ts) (entries_of (ts ++ us)) (extends ts us)
-
-front_by : (b : Bool) (entry more : List Token) → (not b || are_good (entry ++ more)) ≡ true → (not b || are_good entry) ≡ true
-front_by true entry more h = all_front (λ t. not (is_bad t)) entry more h
-front_by false entry more h = refl
-
-good_front : (entry other more : List Token) → other ≡ entry ++ more → is_good other ≡ true → is_good entry ≡ true
-good_front [] other more front h = refl
-good_front (t ∷ ts) other more front h =
-    let whole : is_good (t ∷ ts ++ more) ≡ true = ap is_good (sym front) ∙ h in
-    front_by (is_cd (t ∷ ts)) (t ∷ ts) more whole
-
--- the tests of the first entry and of the others
-parts_of : (word : Bool) (entry : List Token) (entries : List (List Token)) → good_entries word (entry ∷ entries) ≡ true → ((word || is_good entry) ≡ true) × (good_entries (not word && wants_word entry) entries ≡ true)
-unfolding good_entries
-parts_of true entry entries h = (refl, h)
-parts_of false entry entries h = both (is_good entry) (good_entries (wants_word entry) entries) h
-
-whole_of : (word : Bool) (entry : List Token) (entries : List (List Token)) → (word || is_good entry) ≡ true → good_entries (not word && wants_word entry) entries ≡ true → good_entries word (entry ∷ entries) ≡ true
-unfolding good_entries
-whole_of true entry entries h k = k
-whole_of false entry entries h k = joined (is_good entry) (good_entries (wants_word entry) entries) h k
-
-none_told : (word : Bool) → good_entries word [] ≡ true
-unfolding good_entries
-none_told word = refl
-
-or_front : (word : Bool) (entry other more : List Token) → other ≡ entry ++ more → (word || is_good other) ≡ true → (word || is_good entry) ≡ true
-or_front true entry other more front h = refl
-or_front false entry other more front h = good_front entry other more front h
-
-extends_good : (word : Bool) (entries later : List (List Token)) → Extends entries later → good_entries word later ≡ true → good_entries word entries ≡ true
-extends_good word [] later none_there h = none_told word
-extends_good word (entry ∷ entries) [] h k = elim h [ ]
-extends_good word (entry ∷ []) (other ∷ later) (goes_on more front) h =
-    whole_of word entry [] (or_front word entry other more front (parts_of word other later h).0) (none_told (not word && wants_word entry))
-extends_good word (entry ∷ entries) (other ∷ later) (stays h) k =
-    let parts = parts_of word entry later k in
-    whole_of word entry entries parts.0 (extends_good (not word && wants_word entry) entries later h parts.1)
-
-told_good : (ts us : List Token) → list_all is_good (described (ts ++ us)) ≡ true → list_all is_good (described ts) ≡ true
-unfolding good_entries
-told_good ts us h = extends_good false (entries_of ts) (entries_of (ts ++ us)) (extends ts us) h
-
 -- NO FAULT
 
-front_none : {A : Type 0} (xs ys : List A) → xs ++ ys ≡ [] → xs ≡ []
-front_none [] ys h = refl
-front_none (x ∷ xs) ys h = cc
-
-behind_none : {A : Type 0} (xs ys : List A) → xs ++ ys ≡ [] → ys ≡ []
-behind_none [] ys h = h
-behind_none (x ∷ xs) ys h = cc
-
-some_first : (x : SourceFault) (b : Bool) (y : SourceFault) → (if b then Some y else Some x) ≡ None → ⊥
-some_first x true y h = cc
-some_first x false y h = cc
-
-not_none : (x : SourceFault) (other : Option SourceFault) → earlier (Some x) other ≡ None → ⊥
-not_none x None h = cc
-not_none x (Some y) h = some_first x (is_before y x) y h
-
-no_fault : (xs : List SourceFault) → first xs ≡ None → xs ≡ []
-no_fault [] h = refl
-no_fault (x ∷ xs) h = absurd (not_none x (first xs) h)
-
-no_bad_table : (l : Limits) (ts : List Token) → other_faults l ts ≡ [] → bad_tables (described ts) ≡ []
-no_bad_table l ts h = behind_none _ _ (front_none _ _ (front_none _ _ (front_none _ _ h)))
-
-counts : (ts : List Token) (place : ℕ) → place < length ts → length ts - length (drop (place + 1) ts) ≡ place + 1
-counts ts place h = omega (arith, h, length-drop (place + 1) ts)
-
-front_of : (place : ℕ) (ts : List Token) → (more : List Token) × (take (suc place) ts ≡ take place ts ++ more)
-front_of zero ts = (take 1 ts, refl)
-front_of (suc place) [] = ([], refl)
-front_of (suc place) (t ∷ ts) = let others = front_of place ts in (others.0, ap (λ us. t ∷ us) others.1)
-
--- what is read is told by the tokens up to the word PROCEDURE, and the faults by one token more
-all_good : (ts : List Token) (place : ℕ) → other_faults limits (take (place + 1) ts) ≡ [] → list_all is_good (described (take place ts)) ≡ true
-all_good ts place none =
-    let split = front_of place ts in
-    let next : place + 1 ≡ suc place = omega arith in
-    let whole : list_all is_good (described (take (place + 1) ts)) ≡ true = each_good (described (take (place + 1) ts)) (none_bad (cd_tokens (described (take (place + 1) ts))) (no_bad_table limits (take (place + 1) ts) none)) in
-    told_good (take place ts) split.0 (ap (λ us. list_all is_good (described us)) (sym (ap (λ n. take n ts) next ∙ split.1)) ∙ whole)
+no_bad_table : (l : Limits) (f : Bool) (lined ts : List Token) → other_faults l f lined ts ≡ [] → bad_tables (described ts) ≡ []
+no_bad_table l f lined ts h = behind_none _ _ (front_none _ _ (front_none _ _ (front_none _ _ h)))
 
 pub has_occurrences : (ts : List Token) (place : ℕ) (d : DataDivision) → data_fault ts ≡ None → IsDivisionOf ts place d → HasOccurrences d
-has_occurrences ts place d none told =
-    let found : data_faults ts ≡ [] = no_fault (data_faults ts) none in
-    let whole : faults_by limits ts (ends (drop (place + 1) ts)) ≡ [] = ap (faults_by limits ts) (sym told.complete) ∙ found in
-    let others : other_faults limits (take (length ts - length (drop (place + 1) ts)) ts) ≡ [] = front_none _ _ whole in
-    let good : list_all is_good (described (take place ts)) ≡ true = all_good ts place (ap (λ n. other_faults limits (take n ts)) (sym (counts ts place told.within)) ∙ others) in
+has_occurrences ts place d none word_flags =
+    let entries = described (take place ts) in
+    let good : list_all is_good entries ≡ true =
+    each_good entries (none_bad (cd_tokens entries) (no_bad_table limits true (take (place + 1) ts) (take place ts) (no_other_fault ts place word_flags.within word_flags.complete none))) in
     let runs = runs_of (take place ts) in
-    ap (λ list. list_all (λ entry. is_body_right entry.body) list) (sym told.communication)
-    ∙ cds_right (length (storage_records runs)) (cd_runs runs) (kept_good runs (heads_good (described (take place ts)) good))
+    ap (λ list. list_all (λ entry. is_body_right entry.body) list) (sym word_flags.communication)
+    ∙ cds_right (length (storage_records runs)) (cd_runs runs) (kept_good runs (heads_good entries good))

@@ -1,11 +1,12 @@
 -- Reading part by part.
-use Rattle.std.proofs.Common.{◌≡◌, ◌≤◌, ◌<◌, ℕ, suc, ◌+◌, ◌-◌, Bool, true, false, List, [], ◌∷◌, ◌++◌, length, take, drop, get_or, Option, Some, None, Result, Ok, Err, MatchResult, Bor, codes, refl, sym, ap, ◌∙◌, arith, drop-cons}
+use Rattle.std.proofs.Common.{◌≡◌, ◌≤◌, ◌<◌, ℕ, suc, ◌+◌, ◌-◌, Bool, true, false, List, [], ◌∷◌, ◌++◌, length, take, drop, get_or, Option, Some, None, Result, Ok, Err, MatchResult, Bor, codes, refl, sym, ap, ◌∙◌, arith, drop-cons, length-drop}
 use Rattle.std.proofs.Math.Seq.{take-length}
 use Rattle.cob_lex.specs.declared.token.Token.{Token}
 use Rattle.cob_forms.specs.Sorts.{Sort, is, reserved}
 use Rattle.cob_forms.specs.Forms.{Part, token, form, maybe, more, behind, ends, goes_on, may_end, next, reading, wanted}
 use Rattle.cob_forms.specs.Readers.{begins}
 use Rattle.std.specs.Prelude.{if◌then◌else◌}
+use Rattle.cob_data.specs.Faults.{with_procedure}
 use Rattle.cob_data.specs.Forms.{Form, alternatives_of}
 use Rattle.cob_data.specs.declared.reader.Wanted.{Wanted}
 use Rattle.cob_data.specs.declared.grammar.Part.{Part as TablePart}
@@ -200,9 +201,30 @@ place_of_procedure parts ts (t ∷ behind) reads h within =
     let end : IsEnd behind ts = end_of_reading _ ts behind read in
     (rw places (read ∙ ap ends end.1), omega (arith, within))
 
-pub no_procedure : (parts : List (Part Form)) (ts rest : List Token) → ReadsTo parts ts rest → begins (is (reserved (codes "PROCEDURE"))) rest ≡ false
-    → reading alternatives_of (parts ++ token (reserved (codes "PROCEDURE")) ∷ []) ts ≡ wanted (length rest)
-no_procedure parts ts rest reads h = reads (token (reserved (codes "PROCEDURE"))) [] ∙ procedure_wanted rest h
+goes_behind : (rest : List Token) → 0 < length rest → with_procedure (ends rest) ≡ ends rest
+goes_behind [] h = absurd (omega (arith, h))
+goes_behind (t ∷ ts) h = refl
 
-pub stopped_before : (parts : List (Part Form)) (ts : List Token) (left : ℕ) → StopsAt parts ts left → reading alternatives_of (parts ++ token (reserved (codes "PROCEDURE")) ∷ []) ts ≡ wanted left
-stopped_before parts ts left stops = stops (token (reserved (codes "PROCEDURE"))) []
+-- with a token behind it, or none
+pub one_behind : (parts : List (Part Form)) (ts rest : List Token) → ReadsTo parts ts rest → begins (is (reserved (codes "PROCEDURE"))) rest ≡ true → length rest ≤ length ts → (length rest ≡ 1 → ⊥)
+    → (reading alternatives_of (parts ++ token (reserved (codes "PROCEDURE")) ∷ []) ts ≡ ends (drop (length ts - length rest + 1) ts)) × (length ts - length rest + 1 < length ts)
+    × (with_procedure (reading alternatives_of (parts ++ token (reserved (codes "PROCEDURE")) ∷ []) ts) ≡ ends (drop (length ts - length rest + 1) ts))
+one_behind parts ts [] reads h within some = absurd (false_is_true h)
+one_behind parts ts (t ∷ []) reads h within some = absurd (some refl)
+one_behind parts ts (t ∷ u ∷ behind) reads h within some =
+    let read = (place_of_procedure parts ts (t ∷ u ∷ behind) reads h within).0 in
+    let inside : length ts - length (t ∷ u ∷ behind) + 1 < length ts = omega (arith, within) in
+    (read, inside, ap with_procedure read ∙ goes_behind (drop (length ts - length (t ∷ u ∷ behind) + 1) ts) (omega (arith, inside, length-drop (length ts - length (t ∷ u ∷ behind) + 1) ts)))
+
+pub none_behind : (parts : List (Part Form)) (ts rest : List Token) → ReadsTo parts ts rest → begins (is (reserved (codes "PROCEDURE"))) rest ≡ true → length rest ≡ 1
+    → with_procedure (reading alternatives_of (parts ++ token (reserved (codes "PROCEDURE")) ∷ []) ts) ≡ wanted 0
+none_behind parts ts [] reads h one = absurd (false_is_true h)
+none_behind parts ts (t ∷ []) reads h one = ap with_procedure (reads (token (reserved (codes "PROCEDURE"))) [] ∙ procedure_read (t ∷ []) [] t refl h)
+none_behind parts ts (t ∷ u ∷ behind) reads h one = absurd (omega (arith, one))
+
+pub no_procedure : (parts : List (Part Form)) (ts rest : List Token) → ReadsTo parts ts rest → begins (is (reserved (codes "PROCEDURE"))) rest ≡ false
+    → with_procedure (reading alternatives_of (parts ++ token (reserved (codes "PROCEDURE")) ∷ []) ts) ≡ wanted (length rest)
+no_procedure parts ts rest reads h = ap with_procedure (reads (token (reserved (codes "PROCEDURE"))) [] ∙ procedure_wanted rest h)
+
+pub stopped_before : (parts : List (Part Form)) (ts : List Token) (left : ℕ) → StopsAt parts ts left → with_procedure (reading alternatives_of (parts ++ token (reserved (codes "PROCEDURE")) ∷ []) ts) ≡ wanted left
+stopped_before parts ts left stops = ap with_procedure (stops (token (reserved (codes "PROCEDURE"))) [])

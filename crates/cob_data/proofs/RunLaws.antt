@@ -1,5 +1,5 @@
 -- Runs and records one by one, of which the last may count less.
-use Rattle.std.proofs.Common.{◌≡◌, ℕ, suc, Bool, true, false, not, ◌||◌, nat_lt, List, [], ◌∷◌, ◌++◌, length, if◌then◌else◌, Option, refl, sym, ap, ◌∙◌, arith}
+use Rattle.std.proofs.Common.{◌≡◌, ℕ, suc, Bool, true, false, not, ◌&&◌, ◌||◌, nat_lt, List, [], ◌∷◌, ◌++◌, length, if◌then◌else◌, Option, refl, sym, ap, ◌∙◌, arith}
 use Rattle.std.proofs.lemmas.Grind.{common_steps}
 use Rattle.std.proofs.lemmas.Bool.Decides.{nat_tests}
 use Rattle.cob_lex.specs.declared.fault.SourceFault.{SourceFault}
@@ -26,14 +26,16 @@ record_next area is_last found whole r all rs here left =
 
 -- RUNS
 
-one_run : (r : Run) (rs : List Run) → runs_faults (r ∷ rs) ≡ run_faults (not (nat_lt 0 (length rs))) r ++ runs_faults rs
-one_run r [] = sym (nothing_behind (run_faults true r))
-one_run r (s ∷ ss) = rw (some (length ss)) refl
+one_run : (f : Bool) (r : Run) (rs : List Run) → runs_faults f (r ∷ rs) ≡ run_faults (not f && not (nat_lt 0 (length rs))) r ++ runs_faults f rs
+one_run true r [] = sym (nothing_behind (run_faults false r))
+one_run false r [] = sym (nothing_behind (run_faults true r))
+one_run true r (s ∷ ss) = refl
+one_run false r (s ∷ ss) = rw (some (length ss)) refl
 
-pub run_next : (found whole : Option SourceFault) (r : Run) (all rs : List Run) → all ≡ r ∷ rs
-    → earlier found (first (runs_faults all)) ≡ whole → earlier (earlier found (first (run_faults (not (nat_lt 0 (length rs))) r))) (first (runs_faults rs)) ≡ whole
-run_next found whole r all rs here left =
-    one_more found (run_faults (not (nat_lt 0 (length rs))) r) (runs_faults rs) ∙ ap (λ xs. earlier found (first xs)) (sym (ap runs_faults here ∙ one_run r rs)) ∙ left
+pub run_next : (f : Bool) (found whole : Option SourceFault) (r : Run) (all rs : List Run) → all ≡ r ∷ rs
+    → earlier found (first (runs_faults f all)) ≡ whole → earlier (earlier found (first (run_faults (not f && not (nat_lt 0 (length rs))) r))) (first (runs_faults f rs)) ≡ whole
+run_next f found whole r all rs here left =
+    one_more found (run_faults (not f && not (nat_lt 0 (length rs))) r) (runs_faults f rs) ∙ ap (λ xs. earlier found (first xs)) (sym (ap (runs_faults f) here ∙ one_run f r rs)) ∙ left
 
 first_of_three : (a b c : List SourceFault) → earlier (earlier (first a) (first b)) (first c) ≡ first ((a ++ b) ++ c)
 first_of_three a b c = sym (first-append (a ++ b) c ∙ ap (λ o. earlier o (first c)) (first-append a b))

@@ -1,5 +1,8 @@
 -- Worked divisions: what the tokens of programs say, with the storage of their items, worked out by hand.
 use Rattle.std.proofs.Common.{◌≡◌, ℕ, List, [], ◌∷◌, Option, Some, None, refl, codes, arith}
+use Rattle.com_cd.specs.declared.input_area.InField.{InField}
+use Rattle.com_cd.specs.declared.input_area.InField.TheVariants as cd
+use Rattle.com_cd.specs.declared.output_area.OutField.TheVariants as out
 use Rattle.cob_lex.specs.declared.token.Token.{Token}
 use Rattle.cob_lex.specs.Fronts.{front_of}
 use Rattle.cob_lex.specs.Lexing.{lines_tokens, text_tokens, tokens_of}
@@ -11,11 +14,9 @@ use Rattle.cob_lex.proofs.Programs.{echo, leaver, orders, source}
 use Rattle.cob_data.specs.declared.tree.CdBody.TheVariants as bodies
 use Rattle.cob_data.specs.declared.tree.DataDivision.{DataDivision}
 use Rattle.cob_data.specs.declared.tree.InputClause.{InputClause}
-use Rattle.cob_data.specs.declared.tree.InputField.{InputField}
-use Rattle.cob_data.specs.declared.tree.InputField.TheVariants as fields
 use Rattle.cob_data.specs.declared.tree.Item.{Item}
 use Rattle.cob_data.specs.declared.tree.ItemSort.{ItemSort}
-use Rattle.cob_data.specs.declared.tree.ItemSort.TheVariants.{Characters, Digits, Group}
+use Rattle.cob_data.specs.declared.tree.ItemSort.TheVariants.{Alphanumeric, Numeric, Group}
 use Rattle.cob_data.specs.declared.tree.OutputClause.TheVariants as clauses
 use Rattle.cob_data.specs.declared.tree.Picture.{Picture}
 use Rattle.cob_data.specs.declared.tree.ItemPlace.{ItemPlace}
@@ -43,7 +44,7 @@ stored area start length sort = record { area = area; start = start; length = le
 abbrev item : Number → Option Name → Option Picture → Option Value → ItemPlace → Item
 item level name picture value place = record { level = level; name = name; picture = picture; value = value; place = place }
 
-abbrev clause : ℕ → ℕ → InputField → Name → InputClause
+abbrev clause : ℕ → ℕ → InField → Name → InputClause
 clause line column field name = record { position = position line column; field = field; name = name }
 
 -- the divisions that tokens tell, under some program's name
@@ -65,23 +66,23 @@ echo_division = record {
   source_computer = None;
   object_computer = None;
   working_storage =
-      item (level (codes "01") 5 8) (Some (named (codes "BUF") 5 12)) (Some (picture (codes "X(20)") 5 20)) None (stored 0 0 20 Characters) ∷ [];
+      item (level (codes "01") 5 8) (Some (named (codes "BUF") 5 12)) (Some (picture (codes "X(20)") 5 20)) None (stored 0 0 20 Alphanumeric) ∷ [];
   communication =
       (record {
         name = named (codes "INQ") 7 12;
         body = bodies.Input None (
-            clause 8 12 fields.Queue (named (codes "IN-NAME") 8 30) ∷
-            clause 9 12 fields.Source (named (codes "IN-FROM") 9 31) ∷
-            clause 10 12 fields.TextLength (named (codes "IN-LEN") 10 27) ∷ []);
+            clause 8 12 cd.Queue (named (codes "IN-NAME") 8 30) ∷
+            clause 9 12 cd.Source (named (codes "IN-FROM") 9 31) ∷
+            clause 10 12 cd.Length (named (codes "IN-LEN") 10 27) ∷ []);
         area = 1;
         records = [];
       }) ∷
       (record {
         name = named (codes "OUTQ") 11 12;
         body = bodies.Output (
-            clauses.DestinationCount (position 12 12) (named (codes "OUT-COUNT") 12 33) ∷
-            clauses.TextLength (position 13 12) (named (codes "OUT-LEN") 13 27) ∷
-            clauses.Destination (position 14 12) (named (codes "OUT-TO") 14 36) ∷ []);
+            clauses.Field (position 12 12) out.Count (named (codes "OUT-COUNT") 12 33) ∷
+            clauses.Field (position 13 12) out.Length (named (codes "OUT-LEN") 13 27) ∷
+            clauses.Field (position 14 12) (out.Destination 0) (named (codes "OUT-TO") 14 36) ∷ []);
         area = 2;
         records = [];
       }) ∷ [];
@@ -101,27 +102,27 @@ echo_is_told = record {
 
 -- the names of a program, with what they stand for
 orders_names : declared (division_in orders) ≡
-    (codes "TOTAL-QTY", data_at (stored 0 0 6 Digits) None) ∷
+    (codes "TOTAL-QTY", data_at (stored 0 0 6 Numeric) None) ∷
     (codes "ORDER-REC", data_at (stored 1 0 18 Group) None) ∷
-    (codes "ORD-KIND", data_at (stored 1 0 1 Characters) None) ∷
-    (codes "ORD-NO", data_at (stored 1 1 4 Digits) None) ∷
-    (codes "ORD-ITEM", data_at (stored 1 5 10 Characters) None) ∷
-    (codes "ORD-QTY", data_at (stored 1 15 3 Digits) None) ∷
+    (codes "ORD-KIND", data_at (stored 1 0 1 Alphanumeric) None) ∷
+    (codes "ORD-NO", data_at (stored 1 1 4 Numeric) None) ∷
+    (codes "ORD-ITEM", data_at (stored 1 5 10 Alphanumeric) None) ∷
+    (codes "ORD-QTY", data_at (stored 1 15 3 Numeric) None) ∷
     (codes "REPLY-REC", data_at (stored 2 0 13 Group) None) ∷
-    (codes "REP-WORD", data_at (stored 2 0 9 Characters) None) ∷
-    (codes "REP-NO", data_at (stored 2 9 4 Characters) None) ∷
+    (codes "REP-WORD", data_at (stored 2 0 9 Alphanumeric) None) ∷
+    (codes "REP-NO", data_at (stored 2 9 4 Alphanumeric) None) ∷
     (codes "TOTAL-REC", data_at (stored 3 0 12 Group) None) ∷
-    (codes "TOT-OUT", data_at (stored 3 6 6 Digits) None) ∷
+    (codes "TOT-OUT", data_at (stored 3 6 6 Numeric) None) ∷
     (codes "ORDER-IN", input_cd 4) ∷
-    (codes "Q-NAME", data_at (stored 4 0 12 Characters) None) ∷
-    (codes "Q-SOURCE", data_at (stored 4 62 12 Characters) None) ∷
-    (codes "Q-STATUS", data_at (stored 4 79 2 Characters) None) ∷
+    (codes "Q-NAME", data_at (stored 4 0 12 Alphanumeric) None) ∷
+    (codes "Q-SOURCE", data_at (stored 4 62 12 Alphanumeric) None) ∷
+    (codes "Q-STATUS", data_at (stored 4 79 2 Alphanumeric) None) ∷
     (codes "REPLY-OUT", output_cd 5 1) ∷
-    (codes "R-COUNT", data_at (stored 5 0 4 Digits) None) ∷
-    (codes "R-LENGTH", data_at (stored 5 4 4 Digits) None) ∷
-    (codes "R-STATUS", data_at (stored 5 8 2 Characters) None) ∷
-    (codes "R-ERROR", data_at (stored 5 10 1 Characters) None) ∷
-    (codes "R-DEST", data_at (stored 5 11 12 Characters) None) ∷ []
+    (codes "R-COUNT", data_at (stored 5 0 4 Numeric) None) ∷
+    (codes "R-LENGTH", data_at (stored 5 4 4 Numeric) None) ∷
+    (codes "R-STATUS", data_at (stored 5 8 2 Alphanumeric) None) ∷
+    (codes "R-ERROR", data_at (stored 5 10 1 Alphanumeric) None) ∷
+    (codes "R-DEST", data_at (stored 5 11 12 Alphanumeric) None) ∷ []
 unfolding lines_tokens text_tokens front_of next reading input_field_of output_field_of
 orders_names = refl
 
@@ -164,40 +165,40 @@ name_of_none = refl
 -- the eleven names in the order of the area
 listed_names : declared (division_in (entries (codes "       CD  C INPUT A B FILLER D E F" ∷ codes "           G H I J K." ∷ []))) ≡
     (codes "C", input_cd 0) ∷
-    (codes "A", data_at (stored 0 0 12 Characters) None) ∷
-    (codes "B", data_at (stored 0 12 12 Characters) None) ∷
-    (codes "D", data_at (stored 0 36 12 Characters) None) ∷
-    (codes "E", data_at (stored 0 48 6 Digits) None) ∷
-    (codes "F", data_at (stored 0 54 8 Digits) None) ∷
-    (codes "G", data_at (stored 0 62 12 Characters) None) ∷
-    (codes "H", data_at (stored 0 74 4 Digits) None) ∷
-    (codes "I", data_at (stored 0 78 1 Characters) None) ∷
-    (codes "J", data_at (stored 0 79 2 Characters) None) ∷
-    (codes "K", data_at (stored 0 81 6 Digits) None) ∷ []
+    (codes "A", data_at (stored 0 0 12 Alphanumeric) None) ∷
+    (codes "B", data_at (stored 0 12 12 Alphanumeric) None) ∷
+    (codes "D", data_at (stored 0 36 12 Alphanumeric) None) ∷
+    (codes "E", data_at (stored 0 48 6 Numeric) None) ∷
+    (codes "F", data_at (stored 0 54 8 Numeric) None) ∷
+    (codes "G", data_at (stored 0 62 12 Alphanumeric) None) ∷
+    (codes "H", data_at (stored 0 74 4 Numeric) None) ∷
+    (codes "I", data_at (stored 0 78 1 Alphanumeric) None) ∷
+    (codes "J", data_at (stored 0 79 2 Alphanumeric) None) ∷
+    (codes "K", data_at (stored 0 81 6 Numeric) None) ∷ []
 unfolding lines_tokens text_tokens front_of next reading input_field_of output_field_of
 listed_names = refl
 
 -- and by clauses, with the same layout
 claused_names : declared (division_in (entries (codes "       CD  C INPUT QUEUE A SUB-QUEUE-1 B SUB-QUEUE-3 D" ∷ codes "           MESSAGE DATE E MESSAGE TIME F SOURCE G TEXT LENGTH H" ∷ codes "           END KEY I STATUS KEY J COUNT K." ∷ []))) ≡
     (codes "C", input_cd 0) ∷
-    (codes "A", data_at (stored 0 0 12 Characters) None) ∷
-    (codes "B", data_at (stored 0 12 12 Characters) None) ∷
-    (codes "D", data_at (stored 0 36 12 Characters) None) ∷
-    (codes "E", data_at (stored 0 48 6 Digits) None) ∷
-    (codes "F", data_at (stored 0 54 8 Digits) None) ∷
-    (codes "G", data_at (stored 0 62 12 Characters) None) ∷
-    (codes "H", data_at (stored 0 74 4 Digits) None) ∷
-    (codes "I", data_at (stored 0 78 1 Characters) None) ∷
-    (codes "J", data_at (stored 0 79 2 Characters) None) ∷
-    (codes "K", data_at (stored 0 81 6 Digits) None) ∷ []
+    (codes "A", data_at (stored 0 0 12 Alphanumeric) None) ∷
+    (codes "B", data_at (stored 0 12 12 Alphanumeric) None) ∷
+    (codes "D", data_at (stored 0 36 12 Alphanumeric) None) ∷
+    (codes "E", data_at (stored 0 48 6 Numeric) None) ∷
+    (codes "F", data_at (stored 0 54 8 Numeric) None) ∷
+    (codes "G", data_at (stored 0 62 12 Alphanumeric) None) ∷
+    (codes "H", data_at (stored 0 74 4 Numeric) None) ∷
+    (codes "I", data_at (stored 0 78 1 Alphanumeric) None) ∷
+    (codes "J", data_at (stored 0 79 2 Alphanumeric) None) ∷
+    (codes "K", data_at (stored 0 81 6 Numeric) None) ∷ []
 unfolding lines_tokens text_tokens front_of next reading input_field_of output_field_of
 claused_names = refl
 
 -- a table of destinations
 table_names : declared (division_in (entries (codes "       CD  C OUTPUT ERROR KEY E DESTINATION D" ∷ codes "           DESTINATION TABLE OCCURS 3 TIMES." ∷ []))) ≡
     (codes "C", output_cd 0 3) ∷
-    (codes "E", data_at (stored 0 10 1 Characters) (Some 3)) ∷
-    (codes "D", data_at (stored 0 11 12 Characters) (Some 3)) ∷ []
+    (codes "E", data_at (stored 0 10 1 Alphanumeric) (Some 3)) ∷
+    (codes "D", data_at (stored 0 11 12 Alphanumeric) (Some 3)) ∷ []
 unfolding lines_tokens text_tokens front_of next reading input_field_of output_field_of
 table_names = refl
 
@@ -211,11 +212,11 @@ table_opening = refl
 records_over_areas : declared (division_in (entries (codes "       CD  C OUTPUT." ∷ codes "       01  R." ∷ codes "           02 A PIC X(10)." ∷ codes "           02 B PIC X(13)." ∷ codes "       01  S PIC X(23)." ∷ codes "       CD  D INPUT." ∷ codes "       01  T PIC X(87)." ∷ []))) ≡
     (codes "C", output_cd 0 1) ∷
     (codes "R", data_at (stored 0 0 23 Group) None) ∷
-    (codes "A", data_at (stored 0 0 10 Characters) None) ∷
-    (codes "B", data_at (stored 0 10 13 Characters) None) ∷
-    (codes "S", data_at (stored 0 0 23 Characters) None) ∷
+    (codes "A", data_at (stored 0 0 10 Alphanumeric) None) ∷
+    (codes "B", data_at (stored 0 10 13 Alphanumeric) None) ∷
+    (codes "S", data_at (stored 0 0 23 Alphanumeric) None) ∷
     (codes "D", input_cd 1) ∷
-    (codes "T", data_at (stored 1 0 87 Characters) None) ∷ []
+    (codes "T", data_at (stored 1 0 87 Alphanumeric) None) ∷ []
 unfolding lines_tokens text_tokens front_of next reading input_field_of output_field_of
 records_over_areas = refl
 
@@ -223,10 +224,10 @@ records_over_areas = refl
 groups_in_groups : declared (division_in (items (codes "       01  A." ∷ codes "           02 B." ∷ codes "           03 C PIC X(2)." ∷ codes "           03 D PIC 9(3)." ∷ codes "           02 E PIC X." ∷ codes "       77  F PIC X." ∷ []))) ≡
     (codes "A", data_at (stored 0 0 6 Group) None) ∷
     (codes "B", data_at (stored 0 0 5 Group) None) ∷
-    (codes "C", data_at (stored 0 0 2 Characters) None) ∷
-    (codes "D", data_at (stored 0 2 3 Digits) None) ∷
-    (codes "E", data_at (stored 0 5 1 Characters) None) ∷
-    (codes "F", data_at (stored 1 0 1 Characters) None) ∷ []
+    (codes "C", data_at (stored 0 0 2 Alphanumeric) None) ∷
+    (codes "D", data_at (stored 0 2 3 Numeric) None) ∷
+    (codes "E", data_at (stored 0 5 1 Alphanumeric) None) ∷
+    (codes "F", data_at (stored 1 0 1 Alphanumeric) None) ∷ []
 unfolding lines_tokens text_tokens front_of next reading input_field_of output_field_of
 groups_in_groups = refl
 

@@ -8,8 +8,7 @@ use Rattle.cob_lex.specs.Lexing.{lines_tokens, text_tokens, tokens_of}
 use Rattle.cob_forms.specs.Forms.{next, reading}
 use Rattle.cob_forms.specs.Faults.{fault, first}
 use Rattle.cob_lex.proofs.Programs.{echo, leaver, orders, source}
-use Rattle.cob_data.specs.Forms.{data_division, alternatives_of}
-use Rattle.cob_data.specs.Faults.{Limits, data_fault, faults_by}
+use Rattle.cob_data.specs.Faults.{Limits, data_fault, division_reading, faults_by}
 use Rattle.cob_data.proofs.Sources.{tokens_in, items, entries}
 
 -- the fault of a source
@@ -20,7 +19,7 @@ abbrev few : Limits
 few = record { names = 3; characters = 10 }
 
 abbrev within_few : List Token → Option SourceFault
-within_few ts = first (faults_by few ts (reading alternatives_of data_division ts))
+within_few ts = first (faults_by few ts (division_reading ts))
 
 -- the fault of a source where 3 names and 10 characters are the most
 abbrev few_in : List ℕ → Option SourceFault
@@ -140,6 +139,31 @@ header_in_area_b = refl
 procedure_in_area_b : told_in (source (codes "       IDENTIFICATION DIVISION." ∷ codes "       PROGRAM-ID. P." ∷ codes "       DATA DIVISION." ∷ codes "           PROCEDURE DIVISION." ∷ [])) ≡ Some (fault 4 12 faults.BadColumn)
 unfolding lines_tokens text_tokens front_of next reading
 procedure_in_area_b = refl
+
+-- behind the word PROCEDURE a token is wanted
+procedure_last : told_in (source (codes "       IDENTIFICATION DIVISION." ∷ codes "       PROGRAM-ID. P." ∷ codes "       DATA DIVISION." ∷ codes "       PROCEDURE" ∷ [])) ≡ Some (fault 4 8 faults.WantedWord)
+unfolding lines_tokens text_tokens front_of next reading
+procedure_last = refl
+
+-- where it is the last one, its column counts nowhere
+procedure_last_in_area_b : told_in (source (codes "       IDENTIFICATION DIVISION." ∷ codes "       PROGRAM-ID. P." ∷ codes "       DATA DIVISION." ∷ codes "           PROCEDURE" ∷ [])) ≡ Some (fault 4 12 faults.WantedWord)
+unfolding lines_tokens text_tokens front_of next reading
+procedure_last_in_area_b = refl
+
+-- nor does a rule over the last whole item
+group_before_procedure : told_in (source (codes "       IDENTIFICATION DIVISION." ∷ codes "       PROGRAM-ID. P." ∷ codes "       DATA DIVISION." ∷ codes "       WORKING-STORAGE SECTION." ∷ codes "       01  A." ∷ codes "       PROCEDURE" ∷ [])) ≡ Some (fault 6 8 faults.WantedWord)
+unfolding lines_tokens text_tokens front_of next reading
+group_before_procedure = refl
+
+-- with a token behind it does
+group_before_division : told_in (source (codes "       IDENTIFICATION DIVISION." ∷ codes "       PROGRAM-ID. P." ∷ codes "       DATA DIVISION." ∷ codes "       WORKING-STORAGE SECTION." ∷ codes "       01  A." ∷ codes "       PROCEDURE 1" ∷ [])) ≡ Some (fault 5 8 faults.WrongKind)
+unfolding lines_tokens text_tokens front_of next reading
+group_before_division = refl
+
+-- an item before the last one is whole
+groups_before_procedure : told_in (source (codes "       IDENTIFICATION DIVISION." ∷ codes "       PROGRAM-ID. P." ∷ codes "       DATA DIVISION." ∷ codes "       WORKING-STORAGE SECTION." ∷ codes "       01  A." ∷ codes "       01  B PIC X." ∷ codes "       PROCEDURE" ∷ [])) ≡ Some (fault 5 8 faults.WrongKind)
+unfolding lines_tokens text_tokens front_of next reading
+groups_before_procedure = refl
 
 -- the word of PROGRAM-ID is no header, whatever it is
 program_in_area_b : told_in (source (codes "       IDENTIFICATION DIVISION." ∷ codes "       PROGRAM-ID." ∷ codes "           DATA." ∷ codes "       DATA DIVISION." ∷ codes "       PROCEDURE DIVISION." ∷ [])) ≡ None
@@ -391,7 +415,32 @@ group_record_counts : told_in (entries (codes "       CD  C INPUT." ∷ codes " 
 unfolding lines_tokens text_tokens front_of next reading
 group_record_counts = refl
 
--- so has one in Working-Storage
+-- what stands below an elementary item counts into no length
+item_below_elementary : told_in (items (codes "       01  A." ∷ codes "           02 B PIC X(2000)." ∷ codes "           03 C PIC X." ∷ [])) ≡ Some (fault 7 12 faults.WrongKind)
+unfolding lines_tokens text_tokens front_of next reading
+item_below_elementary = refl
+
+-- nor does what stands below that
+items_below_elementary : told_in (items (codes "       01  A." ∷ codes "           02 B PIC X(2000)." ∷ codes "           03 C PIC X." ∷ codes "           04 D PIC X(2000)." ∷ [])) ≡ Some (fault 7 12 faults.WrongKind)
+unfolding lines_tokens text_tokens front_of next reading
+items_below_elementary = refl
+
+-- what stands behind them counts again
+item_behind_elementary : told_in (items (codes "       01  A." ∷ codes "           02 B PIC X(2000)." ∷ codes "           03 C PIC X." ∷ codes "           02 D PIC X." ∷ [])) ≡ Some (fault 5 8 faults.OverLimit)
+unfolding lines_tokens text_tokens front_of next reading
+item_behind_elementary = refl
+
+-- its bad picture hides no length
+bad_picture_below_elementary : told_in (items (codes "       01  A." ∷ codes "           02 B PIC X(2000)." ∷ codes "           02 C PIC X." ∷ codes "           03 D PIC XA." ∷ [])) ≡ Some (fault 5 8 faults.OverLimit)
+unfolding lines_tokens text_tokens front_of next reading
+bad_picture_below_elementary = refl
+
+-- over a CD neither
+item_below_elementary_over_cd : told_in (entries (codes "       CD  C INPUT." ∷ codes "       01  R." ∷ codes "           02 A PIC X(87)." ∷ codes "           03 B PIC X." ∷ [])) ≡ Some (fault 8 12 faults.WrongKind)
+unfolding lines_tokens text_tokens front_of next reading
+item_below_elementary_over_cd = refl
+
+-- an elementary record in Working-Storage has the characters of its picture
 elementary_item : told_in (items (codes "       01  A PIC X(2000)." ∷ codes "           02 B PIC X." ∷ [])) ≡ Some (fault 6 12 faults.WrongKind)
 unfolding lines_tokens text_tokens front_of next reading
 elementary_item = refl

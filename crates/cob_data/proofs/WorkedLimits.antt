@@ -7,19 +7,18 @@ use Rattle.cob_lex.specs.Fronts.{front_of}
 use Rattle.cob_lex.specs.Lexing.{lines_tokens, text_tokens, tokens_of}
 use Rattle.cob_forms.specs.Forms.{next, reading}
 use Rattle.cob_forms.specs.Faults.{fault, first}
-use Rattle.cob_data.specs.Forms.{data_division, alternatives_of}
-use Rattle.cob_data.specs.Faults.{Limits, data_faults, faults_by}
+use Rattle.cob_data.specs.Faults.{Limits, data_faults, division_reading, faults_by}
 use Rattle.cob_data.proofs.Sources.{tokens_in, entries}
 
 -- the limits of every program: 2,000 names, and 65,536 characters
-limits_are : (ts : List Token) → data_faults ts ≡ faults_by (record { names = 2 * 10 ^ 3; characters = 2 ^ 16 }) ts (reading alternatives_of data_division ts)
+limits_are : (ts : List Token) → data_faults ts ≡ faults_by (record { names = 2 * 10 ^ 3; characters = 2 ^ 16 }) ts (division_reading ts)
 limits_are ts = refl
 
 abbrev up_to : ℕ → Limits
 up_to most = record { names = 5; characters = most }
 
 abbrev fault_up_to : ℕ → List Token → Option SourceFault
-fault_up_to most ts = first (faults_by (up_to most) ts (reading alternatives_of data_division ts))
+fault_up_to most ts = first (faults_by (up_to most) ts (division_reading ts))
 
 -- two records over one CD, each of the 23 characters of its area
 abbrev two_records : List Token

@@ -8,6 +8,7 @@ pub mod Pictures
 pub mod Levels
 pub mod Measured
 pub mod Divisions
+pub mod HasDivision
 pub mod Layout
 pub mod Occurrences
 pub mod Faults

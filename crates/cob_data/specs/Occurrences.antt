@@ -11,9 +11,11 @@ use Rattle.cob_data.specs.declared.tree.OutputClause.TheVariants as clauses
 
 -- a table has as many destinations as an area may have, 1 to 8
 abbrev pub is_table_right : OutputClause → Bool
-is_table_right (clauses.Table position occurs) = nat_le 1 (numeral occurs.digits) && nat_le (numeral occurs.digits) MAX_OCCURRENCES
+is_table_right (clauses.Table position occurs) = nat_le 1 (numeral occurs.digits)
+    && nat_le (numeral occurs.digits) MAX_OCCURRENCES
 is_table_right other = true
 
+-- each table of a CD has as many destinations as an area may have
 abbrev pub is_body_right : CdBody → Bool
 is_body_right (bodies.Output list) = list_all is_table_right list
 is_body_right other = true

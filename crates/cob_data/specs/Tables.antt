@@ -9,17 +9,16 @@ use Rattle.cob_data.specs.declared.grammar.Form.TheVariants as forms
 use Rattle.cob_data.specs.declared.grammar.Part.{Part as TablePart}
 use Rattle.cob_data.specs.declared.grammar.Part.TheVariants as parts
 use Rattle.cob_data.specs.declared.grammar.Alternative.{Alternative}
-use Rattle.cob_data.specs.declared.cds.OutputField.{OutputField as TableField}
-use Rattle.cob_data.specs.declared.cds.OutputField.TheVariants as fields
-use Rattle.cob_data.specs.Clauses as clauses
 use Rattle.cob_data.specs.Forms as all
 
+-- a sort of the tables, as one of the definitions
 abbrev pub sort_of : TableSort → Sort
 sort_of (sorts.Reserved word) = reserved word.now
 sort_of sorts.Name = name
 sort_of sorts.AnyWord = any_word
 sort_of (sorts.Kind kind) = of_kind kind
 
+-- a form of the tables, as one of the definitions
 abbrev pub form_of : TableForm → all.Form
 form_of forms.Environment = all.environment
 form_of forms.Configuration = all.configuration
@@ -46,23 +45,17 @@ form_of forms.DestinationClause = all.destination_clause
 form_of forms.WordIs = all.word_is
 form_of forms.WordTimes = all.word_times
 
+-- a part of the tables, as one of the definitions
 abbrev pub part_of : TablePart → Part all.Form
 part_of (parts.Token sort) = token (sort_of sort)
 part_of (parts.Form f) = form (form_of f)
 part_of (parts.Maybe f) = maybe (form_of f)
 part_of (parts.More f) = more (form_of f)
 
+-- parts of the tables, as those of the definitions
 abbrev pub parts_of : List TablePart → List (Part all.Form)
 parts_of parts = map part_of parts
 
+-- an alternative of the tables, as one of the definitions
 abbrev pub alternative_of : Alternative → Sort × List (Part all.Form)
 alternative_of alternative = (sort_of alternative.0, parts_of alternative.1.now)
-
--- the fields by which clauses of an output CD are told apart
-abbrev pub kind_of_field : TableField → clauses.OutputField
-kind_of_field fields.DestinationCount = clauses.destination_count
-kind_of_field fields.TextLength = clauses.text_length
-kind_of_field fields.StatusKey = clauses.status_key
-kind_of_field fields.DestinationTable = clauses.destination_table
-kind_of_field fields.ErrorKey = clauses.error_key
-kind_of_field fields.Destination = clauses.destination

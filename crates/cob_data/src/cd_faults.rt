@@ -1,4 +1,5 @@
-//! Faults of CD entries: numbers of occurrences, INITIAL more than once, and clauses that stand twice.
+//! Faults of CD entries: numbers of occurrences, INITIAL more than once, and clauses that stand
+//! twice.
 ghost use Rattle.std.specs.Prelude.{◌≡◌, ◌&&◌, ◌||◌, [], IfOk, codes, filter, nat_le, not, if◌then◌else◌};
 ghost use Rattle.cob_forms.specs.Faults.{first};
 ghost use Rattle.cob_forms.specs.Sorts.{is, of_kind, reserved};
@@ -40,14 +41,19 @@ fn is_out_of_range(number: u64) -> bool
 
 /// Whether a token is a number of occurrences that may not be.
 fn is_bad_number(token: &Token) -> bool
-    ensures { result ≡ (is (of_kind kinds.Number) token.now && not (nat_le 1 (numeral token.now.text) && nat_le (numeral token.now.text) MAX_OCCURRENCES)) }
+    ensures { result ≡ (is (of_kind kinds.Number) token.now
+        && not (nat_le 1 (numeral token.now.text)
+        && nat_le (numeral token.now.text) MAX_OCCURRENCES)) }
 {
     is_kind(token, TokenKind::Number) && is_out_of_range(numeral(token.text.as_bytes()))
 }
 
 /// The first number of occurrences that may not be, in the entry of a CD.
 fn first_bad_number(tokens: &[Token]) -> Option<SourceFault>
-    ensures { result ≡ first (at_any faults.OverLimit (filter (λ t. is (of_kind kinds.Number) t && not (nat_le 1 (numeral t.text) && nat_le (numeral t.text) MAX_OCCURRENCES)) tokens.now)) }
+    ensures { result ≡ first (at_any faults.OverLimit (filter
+        (λ t. is (of_kind kinds.Number) t
+        && not (nat_le 1 (numeral t.text)
+        && nat_le (numeral t.text) MAX_OCCURRENCES)) tokens.now)) }
 {
     let mut found = None;
     'tokens: for token in tokens {
@@ -113,7 +119,8 @@ pub(crate) fn first_second_initial(entries: &[Entry]) -> Option<SourceFault>
 
 /// The first clause that stands twice in the entry of a CD, told at its first word.
 fn first_clause_again(alloc: Global, entry: &[Token]) -> Result<Option<SourceFault>, AllocError>
-    ensures { IfOk result (λ found. found ≡ first (clause_faults (is_input entry.now) [] (clauses_of entry.now))) }
+    ensures { IfOk result
+        (λ found. found ≡ first (clause_faults (is_input entry.now) [] (clauses_of entry.now))) }
 {
     let is_input = is_input(entry);
     let mut words = IndexSet::new(alloc);

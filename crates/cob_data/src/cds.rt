@@ -3,52 +3,40 @@ ghost use Rattle.std.specs.Prelude.{◌≡◌, ◌≤◌, ◌++◌, ℕ, List, [
 ghost use Rattle.cob_data.specs.Entries.{first_token, has, last_token, piece_length};
 ghost use Rattle.cob_data.specs.Clauses.{all_clauses, body_of, clause_word, clauses_of, ends_clause, input_field_of, is_input, is_name_or_filler, lists_names, number_in, output_field_of};
 ghost use Rattle.cob_data.specs.Divisions.{body_by, initial_of, input_clause, input_clauses, name_if, output_clause, output_clause_by, output_clauses};
-ghost use Rattle.cob_data.specs.Tables.{kind_of_field};
-ghost use Rattle.cob_data.specs.declared.tree.InputField.{InputField};
 
-use crate::{CdBody, InputClause, InputField, OutputClause};
+use crate::{CdBody, InputClause, OutputClause};
 use cob_forms::{Name, Number, Position, is_kind, is_name, is_word, next_is_word};
 use cob_lex::{Token, TokenKind};
+use com_cd::{InField, OutField};
 use com_text::Rows;
 use std::alloc::{AllocError, Global};
 use std::marker::Model;
 
 /// The words by which the clauses of an input CD are told apart. The first of them that stands in a
 /// clause is the clause's.
-const INPUT_WORDS: [(&[u8], InputField); 11] = [
-    (b"QUEUE", InputField::Queue),
-    (b"SUB-QUEUE-1", InputField::SubQueue1),
-    (b"SUB-QUEUE-2", InputField::SubQueue2),
-    (b"SUB-QUEUE-3", InputField::SubQueue3),
-    (b"DATE", InputField::MessageDate),
-    (b"TIME", InputField::MessageTime),
-    (b"SOURCE", InputField::Source),
-    (b"LENGTH", InputField::TextLength),
-    (b"END", InputField::EndKey),
-    (b"STATUS", InputField::StatusKey),
-    (b"COUNT", InputField::MessageCount),
+const INPUT_WORDS: [(&[u8], InField); 11] = [
+    (b"QUEUE", InField::Queue),
+    (b"SUB-QUEUE-1", InField::Sub1),
+    (b"SUB-QUEUE-2", InField::Sub2),
+    (b"SUB-QUEUE-3", InField::Sub3),
+    (b"DATE", InField::Date),
+    (b"TIME", InField::Time),
+    (b"SOURCE", InField::Source),
+    (b"LENGTH", InField::Length),
+    (b"END", InField::EndKey),
+    (b"STATUS", InField::Status),
+    (b"COUNT", InField::Count),
 ];
 
-/// The fields of an output CD.
-#[derive(Clone, Copy)]
-pub(crate) enum OutputField {
-    DestinationCount,
-    TextLength,
-    StatusKey,
-    DestinationTable,
-    ErrorKey,
-    Destination,
-}
-
-/// The words by which the clauses of an output CD are told apart. DESTINATION is the last, since DESTINATION
-/// COUNT and DESTINATION TABLE have it too.
-const OUTPUT_WORDS: [(&[u8], OutputField); 6] = [
-    (b"COUNT", OutputField::DestinationCount),
-    (b"LENGTH", OutputField::TextLength),
-    (b"STATUS", OutputField::StatusKey),
-    (b"TABLE", OutputField::DestinationTable),
-    (b"ERROR", OutputField::ErrorKey),
-    (b"DESTINATION", OutputField::Destination),
+/// The words by which the clauses of an output CD are told apart, with None for the clause of its
+/// table. DESTINATION is the last, since DESTINATION COUNT and DESTINATION TABLE have it too.
+const OUTPUT_WORDS: [(&[u8], Option<OutField>); 6] = [
+    (b"COUNT", Some(OutField::Count)),
+    (b"LENGTH", Some(OutField::Length)),
+    (b"STATUS", Some(OutField::Status)),
+    (b"TABLE", None),
+    (b"ERROR", Some(OutField::Error(0))),
+    (b"DESTINATION", Some(OutField::Destination(0))),
 ];
 
 /// Whether this reserved word stands in an entry or a clause.
@@ -147,7 +135,8 @@ impl<'a> Clauses<'a> {
 
     /// The next clause, unless it is the last and nothing stands behind it.
     pub(crate) fn next(&mut self) -> Option<&'a [Token]>
-        ensures { MatchOption result ((self.old ≡ []) × (self.new ≡ [])) (λ clause. self.old ≡ clause.now ∷ self.new) }
+        ensures { MatchOption result ((self.old ≡ []) × (self.new ≡ []))
+            (λ clause. self.old ≡ clause.now ∷ self.new) }
     {
         let (clause, rest) = self.rest.split_at(clause_length(self.rest));
         self.rest = rest;
@@ -160,15 +149,25 @@ impl<'a> Clauses<'a> {
 
 /// The field that a clause of an input CD is for.
 #[tactic(auto, unfolding(crate::specs::Clauses::input_field_of))]
-fn input_field(clause: &[Token]) -> Option<InputField>
+fn input_field(clause: &[Token]) -> Option<InField>
     ensures { result ≡ input_field_of clause.now }
 {
-    first_told(&INPUT_WORDS, clause)
+    first_field(&INPUT_WORDS, clause)
 }
 
-/// The field of the first pair whose word stands in a clause.
-fn first_told(pairs: &[(&[u8], InputField)], clause: &[Token]) -> Option<InputField>
-    ensures { result ≡ option_map {T = List ℕ × InputField} (λ pair. pair.1) (find (λ pair. has pair.0 clause.now) (map (λ pair. (pair.0.now, pair.1)) pairs.now)) }
+/// The field that a clause of an output CD is for, or that it is the table.
+#[tactic(auto, unfolding(crate::specs::Clauses::output_field_of))]
+fn output_field(clause: &[Token]) -> Option<Option<OutField>>
+    ensures { result ≡ output_field_of clause.now }
+{
+    first_field(&OUTPUT_WORDS, clause)
+}
+
+/// What the first pair says whose word stands in a clause.
+fn first_field<F: Copy>(pairs: &[(&'static [u8], F)], clause: &[Token]) -> Option<F>
+    ensures { result ≡ option_map {T = List ℕ × F}
+        (λ pair. pair.1) (find
+        (λ pair. has pair.0 clause.now) (map (λ pair. (pair.0.now, pair.1)) pairs.now)) }
 {
     'pairs: for pair in pairs {
         if has(clause, pair.0) {
@@ -178,22 +177,10 @@ fn first_told(pairs: &[(&[u8], InputField)], clause: &[Token]) -> Option<InputFi
     None
 }
 
-/// The field that a clause of an output CD is for.
-#[tactic(auto, unfolding(crate::specs::Clauses::output_field_of))]
-fn output_field(clause: &[Token]) -> Option<OutputField>
-    ensures { option_map kind_of_field result ≡ output_field_of clause.now }
-{
-    'pairs: for pair in &OUTPUT_WORDS {
-        if has(clause, pair.0) {
-            return Some(pair.1);
-        }
-    }
-    None
-}
-
 /// The word of the first pair whose word stands in a clause.
-fn word_told<F: Copy>(pairs: &[(&'static [u8], F)], clause: &[Token]) -> &'static [u8]
-    ensures { result.now ≡ unwrap_or (find (λ word. has word clause.now) (map (λ pair. pair.0.now) pairs.now)) [] }
+fn first_word<F: Copy>(pairs: &[(&'static [u8], F)], clause: &[Token]) -> &'static [u8]
+    ensures { result.now
+        ≡ unwrap_or (find (λ word. has word clause.now) (map (λ pair. pair.0.now) pairs.now)) [] }
 {
     'pairs: for pair in pairs {
         if has(clause, pair.0) {
@@ -208,9 +195,9 @@ pub(crate) fn clause_word(is_input: bool, clause: &[Token]) -> &'static [u8]
     ensures { result.now ≡ clause_word is_input clause.now }
 {
     if is_input {
-        word_told(&INPUT_WORDS, clause)
+        first_word(&INPUT_WORDS, clause)
     } else {
-        word_told(&OUTPUT_WORDS, clause)
+        first_word(&OUTPUT_WORDS, clause)
     }
 }
 
@@ -249,7 +236,9 @@ fn input_clauses(alloc: Global, entry: &[Token]) -> Result<Vec<InputClause>, All
 
 /// Adds a clause of an input CD.
 fn put_input_clause(clause: &[Token], list: &mut Vec<InputClause>) -> Result<(), AllocError>
-    ensures { IfOk result (λ _. list.new.items ≡ list.old.items ++ input_clause (input_field_of clause.now) (first_token clause.now) (last_token clause.now)) }
+    ensures { IfOk result
+        (λ _. list.new.items ≡ list.old.items
+        ++ input_clause (input_field_of clause.now) (first_token clause.now) (last_token clause.now)) }
 {
     let Some(field) = input_field(clause) else {
         return Ok(());
@@ -282,7 +271,9 @@ fn output_clauses(alloc: Global, entry: &[Token]) -> Result<Vec<OutputClause>, A
 
 /// Adds a clause of an output CD.
 fn put_output_clause(clause: &[Token], list: &mut Vec<OutputClause>) -> Result<(), AllocError>
-    ensures { IfOk result (λ _. list.new.items ≡ list.old.items ++ output_clause (output_field_of clause.now) (first_token clause.now) (last_token clause.now) (number_in clause.now)) }
+    ensures { IfOk result
+        (λ _. list.new.items ≡ list.old.items
+        ++ output_clause (output_field_of clause.now) (first_token clause.now) (last_token clause.now) (number_in clause.now)) }
 {
     let Some(field) = output_field(clause) else {
         return Ok(());
@@ -301,44 +292,31 @@ fn put_output_clause(clause: &[Token], list: &mut Vec<OutputClause>) -> Result<(
 
 /// A clause of an output CD, by its field.
 fn output_clause(
-    field: OutputField,
+    field: Option<OutField>,
     first: &Token,
     named: &Token,
     clause: &[Token],
 ) -> Result<Option<OutputClause>, AllocError>
-    ensures { IfOk result (λ found. option_to_list found ≡ output_clause_by (kind_of_field field) first.now named.now (number_in clause.now)) }
+    ensures { IfOk result
+        (λ found. option_to_list found
+        ≡ output_clause_by field first.now named.now (number_in clause.now)) }
 {
     let position = Position::of(first);
-    let found = match field {
-        OutputField::DestinationCount => OutputClause::DestinationCount {
+    if let Some(field) = field {
+        let name = Name::of(named)?;
+        return Ok(Some(OutputClause::Field {
             position,
-            name: Name::of(named)?,
-        },
-        OutputField::TextLength => OutputClause::TextLength {
-            position,
-            name: Name::of(named)?,
-        },
-        OutputField::StatusKey => OutputClause::StatusKey {
-            position,
-            name: Name::of(named)?,
-        },
-        OutputField::DestinationTable => match number_in(clause) {
-            Some(number) => OutputClause::Table {
-                position,
-                occurs: Number::of(number)?,
-            },
-            None => return Ok(None),
-        },
-        OutputField::ErrorKey => OutputClause::ErrorKey {
-            position,
-            name: Name::of(named)?,
-        },
-        OutputField::Destination => OutputClause::Destination {
-            position,
-            name: Name::of(named)?,
-        },
-    };
-    Ok(Some(found))
+            field,
+            name,
+        }));
+    }
+    match number_in(clause) {
+        Some(number) => {
+            let occurs = Number::of(number)?;
+            Ok(Some(OutputClause::Table { position, occurs }))
+        }
+        None => Ok(None),
+    }
 }
 
 /// A name, and none for FILLER.
@@ -377,7 +355,8 @@ fn initial_of(entry: &[Token]) -> Option<Position>
 
 /// The body of a CD entry.
 pub(crate) fn cd_body(alloc: Global, entry: &[Token]) -> Result<CdBody, AllocError>
-    ensures { IfOk result (λ body. body ≡ body_by (is_input entry.now) (lists_names (body_of entry.now)) entry.now) }
+    ensures { IfOk result
+        (λ body. body ≡ body_by (is_input entry.now) (lists_names (body_of entry.now)) entry.now) }
 {
     let body = body_of(entry);
     if !is_input(entry) {

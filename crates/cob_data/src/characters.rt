@@ -2,7 +2,7 @@
 ghost use Rattle.std.specs.Prelude.{◌≡◌, false, filter};
 ghost use Rattle.cob_forms.specs.Faults.{first};
 ghost use Rattle.cob_data.specs.Entries.{all_but_last, first_token, is_item};
-ghost use Rattle.cob_data.specs.Faults.{characters_past, limits, unless};
+ghost use Rattle.cob_data.specs.Faults.{characters_past, limits, unless, whole_entries};
 
 use crate::entries::is_item;
 use crate::entry::Entry;
@@ -20,12 +20,22 @@ fn all_but_last<'b, 'a>(entries: &'b [Entry<'a>]) -> &'b [Entry<'a>]
     whole
 }
 
-/// The item with which the items have too many characters, of the entries behind which a further token
-/// stands.
-pub(crate) fn first_character_past(entries: &[Entry]) -> Option<SourceFault>
-    ensures { result ≡ first (characters_past limits.characters 0 (filter is_item (all_but_last entries.now))) }
+/// The entries behind which a further token stands.
+fn whole_entries<'b, 'a>(is_followed: bool, entries: &'b [Entry<'a>]) -> &'b [Entry<'a>]
+    ensures { result.now ≡ whole_entries is_followed entries.now }
 {
-    first_past(all_but_last(entries))
+    if is_followed {
+        return entries;
+    }
+    all_but_last(entries)
+}
+
+/// The item with which the items have too many characters, of the entries behind which a further
+/// token stands.
+pub(crate) fn first_character_past(is_followed: bool, entries: &[Entry]) -> Option<SourceFault>
+    ensures { result ≡ first (characters_past limits.characters 0 (filter is_item (whole_entries is_followed entries.now))) }
+{
+    first_past(whole_entries(is_followed, entries))
 }
 
 /// The item with which the items have too many characters.

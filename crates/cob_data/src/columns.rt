@@ -3,15 +3,15 @@ ghost use Rattle.std.specs.Prelude.{◌≡◌, ◌&&◌, ◌==◌, List, Bool, [
 ghost use Rattle.cob_forms.specs.Faults.{earlier, first, noted};
 ghost use Rattle.cob_lex.specs.declared.fault.SourceKind.TheVariants.{BadColumn};
 ghost use Rattle.cob_lex.specs.declared.token.Token.{Token};
-ghost use Rattle.cob_data.specs.Faults.{bad_columns, column_faults, is_free, is_in_place, line_behind, marked, wants_area_a};
+ghost use Rattle.cob_data.specs.Faults.{bad_columns, column_faults, is_free, is_in_place, line_behind, begin_flags, wants_area_a};
 
 use crate::entries::Entries;
 use crate::entry::{is_level, rank_of};
 use cob_forms::{first_of, in_area_a, is_kind, noted};
 use cob_lex::{SourceFault, SourceKind, Token, TokenKind};
 
-/// Whether a token that begins an entry has to stand in area A: the first word of a header, CD, and the
-/// levels 01 and 77.
+/// Whether a token that begins an entry has to stand in area A: the first word of a header, CD, and
+/// the levels 01 and 77.
 fn wants_area_a(token: &Token) -> bool
     ensures { result ≡ wants_area_a token.now }
 {
@@ -27,8 +27,8 @@ fn is_free(token: &Token) -> bool
     is_kind(token, TokenKind::Number) && is_level(text) && rank_of(text) != 1
 }
 
-/// Whether a token stands in the area where it may, by whether it begins an entry, and by the line of the
-/// last token before it that is in area A.
+/// Whether a token stands in the area where it may, by whether it begins an entry, and by the line
+/// of the last token before it that is in area A.
 fn is_in_place(begins: bool, line: u32, token: &Token) -> bool
     ensures { result ≡ is_in_place begins line token.now }
 {
@@ -56,7 +56,8 @@ impl Columns {
     /// Looks at a token, which begins an entry or not.
     fn pass(self, begins: bool, token: &Token) -> Columns
         ensures line { result.line ≡ line_behind self.line token.now }
-        ensures found { result.found ≡ earlier self.found (first (noted (not (is_in_place begins self.line token.now)) BadColumn token.now)) }
+        ensures found { result.found
+            ≡ earlier self.found (first (noted (not (is_in_place begins self.line token.now)) BadColumn token.now)) }
     {
         let is_wrong = !is_in_place(begins, self.line, token);
         Columns {
@@ -67,8 +68,9 @@ impl Columns {
 
     /// Looks at the tokens of an entry, or of a word that the program chooses.
     fn pass_entry(self, is_chosen: bool, entry: &[Token]) -> Columns
-        ensures { (others : List (Bool × Token)) → earlier result.found (first (column_faults result.line others))
-            ≡ earlier self.found (first (column_faults self.line (marked is_chosen entry.now ++ others))) }
+        ensures { (others : List (Bool × Token))
+            → earlier result.found (first (column_faults result.line others))
+            ≡ earlier self.found (first (column_faults self.line (begin_flags is_chosen entry.now ++ others))) }
     {
         let mut columns = self;
         let mut begins = !is_chosen;

@@ -1,15 +1,15 @@
 //! The entries of the divisions, each up to its period, taken from the front.
 ghost use Rattle.std.specs.Prelude.{◌≡◌, ◌≤◌, ◌&&◌, [], ◌∷◌, MatchOption, false, length, not};
 ghost use Rattle.cob_forms.specs.Sorts.{is, reserved};
-ghost use Rattle.cob_data.specs.Entries.{behind, ends_entry, entries_of, is_cd, is_item, leads, piece_length, told, wants_word};
+ghost use Rattle.cob_data.specs.Entries.{behind, ends_entry, entries_of, is_cd, is_item, leads, piece_length, word_flags, wants_word};
 ghost use Rattle.cob_data.specs.Forms.{period};
 
 use cob_forms::{is_kind, is_word};
 use cob_lex::{Token, TokenKind};
 use std::marker::Model;
 
-/// The entries that are left, each with whether it is the word that a program chooses behind a header
-/// such as PROGRAM-ID.
+/// The entries that are left, each with whether it is the word that a program chooses behind a
+/// header such as PROGRAM-ID.
 #[derive(Drop)]
 pub(crate) struct Entries<'a> {
     is_chosen: bool,
@@ -19,17 +19,17 @@ pub(crate) struct Entries<'a> {
 impl<'a> Model for Entries<'a> {
     ghost use Rattle.std.specs.Prelude.{Bool, List};
     ghost use Rattle.cob_lex.specs.declared.token.Token.{Token};
-    ghost use Rattle.cob_data.specs.Entries.{entries_of, told};
+    ghost use Rattle.cob_data.specs.Entries.{entries_of, word_flags};
 
     ghost Value = { List (Bool × List Token) };
 
-    ghost view = { λ entries. told entries.is_chosen (entries_of entries.rest.now) };
+    ghost view = { λ entries. word_flags entries.is_chosen (entries_of entries.rest.now) };
 }
 
 impl<'a> Entries<'a> {
     /// All entries of some tokens.
     pub(crate) fn of(tokens: &'a [Token]) -> Entries<'a>
-        ensures { result ≡ told false (entries_of tokens.now) }
+        ensures { result ≡ word_flags false (entries_of tokens.now) }
     {
         Entries {
             is_chosen: false,
@@ -39,7 +39,8 @@ impl<'a> Entries<'a> {
 
     /// The next entry.
     pub(crate) fn next(&mut self) -> Option<(bool, &'a [Token])>
-        ensures { MatchOption result ((self.old ≡ []) × (self.new ≡ [])) (λ x. self.old ≡ (x.0, x.1.now) ∷ self.new) }
+        ensures { MatchOption result ((self.old ≡ []) × (self.new ≡ []))
+            (λ x. self.old ≡ (x.0, x.1.now) ∷ self.new) }
     {
         if self.rest.is_empty() {
             return None;

@@ -10,8 +10,8 @@ use cob_lex::{Token, TokenKind};
 use com_text::number_of;
 use std::marker::Model;
 
-/// A header, an item or a CD entry by its tokens, with the rank of its level and the characters that it
-/// has by its own picture.
+/// A header, an item or a CD entry by its tokens, with the rank of its level and the characters
+/// that it has by its own picture.
 #[derive(Drop)]
 pub(crate) struct Entry<'a> {
     tokens: &'a [Token],

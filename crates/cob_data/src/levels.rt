@@ -13,7 +13,8 @@ use cob_forms::first_of;
 use cob_lex::{SourceFault, SourceKind};
 use std::alloc::{AllocError, Global};
 
-/// Whether a level is right, by whether the item stands under a group whose first item has this level.
+/// Whether a level is right, by whether the item stands under a group whose first item has this
+/// level.
 fn is_level_under(over_cd: bool, under: bool, item: &Entry) -> bool
     ensures { result ≡ is_level_under over_cd under item.now }
 {

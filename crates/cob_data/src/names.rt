@@ -19,7 +19,8 @@ pub const MAX_DATA_NAMES: usize = 2_000;
 
 /// Adds the names among some tokens.
 fn push_names<'a>(tokens: &'a [Token], names: &mut Vec<&'a Token>) -> Result<(), AllocError>
-    ensures { OnOk result (map (λ t. t.now) names.new.items ≡ map (λ t. t.now) names.old.items ++ filter (is name) tokens.now) }
+    ensures { OnOk result (map (λ t. t.now) names.new.items ≡ map (λ t. t.now) names.old.items
+        ++ filter (is name) tokens.now) }
 {
     'tokens: for token in tokens {
         if is_name(token) {

@@ -1,7 +1,8 @@
-//! The levels that are open at an item: those of the items before it below which items may still stand.
+//! The levels that are open at an item: those of the items before it below which items may still
+//! stand.
 ghost use Rattle.std.specs.Prelude.{◌≡◌, ◌∷◌, List, [], IfOk, OnOk, reverse};
 ghost use Rattle.cob_data.specs.Levels.{rank};
-ghost use Rattle.cob_data.specs.OpenLevels.{closed, is_under, opened, stands_under};
+ghost use Rattle.cob_data.specs.OpenLevels.{closed, is_under, open_after, stands_under};
 ghost use Rattle.cob_data.specs.declared.open_levels.Level.{Level};
 
 use crate::entry::Entry;
@@ -9,8 +10,8 @@ use crate::wholes::is_group;
 use std::alloc::{AllocError, Global};
 use std::marker::Model;
 
-/// An open level: its rank, whether its item is a group, and the rank of the first item below the open
-/// level before it.
+/// An open level: its rank, whether its item is a group, and the rank of the first item below the
+/// open level before it.
 #[derive(Clone, Copy, Debug)]
 pub(crate) struct Level {
     rank: u64,
@@ -40,8 +41,8 @@ impl OpenLevels {
         }
     }
 
-    /// Closes the levels below which an item of this rank does not stand, and gives the rank of the first
-    /// item below the last one that stays open.
+    /// Closes the levels below which an item of this rank does not stand, and gives the rank of the
+    /// first item below the last one that stays open.
     fn close(&mut self, rank: u64) -> Result<u64, AllocError>
         ensures { IfOk result (λ first. closed rank rank self.old ≡ (first, self.new)) }
     {
@@ -77,7 +78,7 @@ impl OpenLevels {
     /// Goes past an item, and says whether it stands under a group whose first item has its level.
     pub(crate) fn pass(&mut self, item: &Entry) -> Result<bool, AllocError>
         ensures under { IfOk result (λ under. under ≡ stands_under (rank item.now) self.old) }
-        ensures levels { OnOk result (self.new ≡ opened item.now self.old) }
+        ensures levels { OnOk result (self.new ≡ open_after item.now self.old) }
     {
         let first = self.close(item.rank())?;
         let under = self.is_under(item.rank(), first);

@@ -26,7 +26,9 @@ fn put_many(byte: u8, count: usize, area: &mut Vec<u8>) -> Result<(), AllocError
 
 /// Adds characters with spaces on their right.
 fn put_text(characters: &[u8], size: usize, area: &mut Vec<u8>) -> Result<(), AllocError>
-    ensures { IfOk result (λ _. area.new.items ≡ area.old.items ++ (characters.now ++ spaces (size - length characters.now))) }
+    ensures { IfOk result
+        (λ _. area.new.items ≡ area.old.items
+        ++ (characters.now ++ spaces (size - length characters.now))) }
 {
     area.extend_from_slice(characters)?;
     put_many(b' ', size.saturating_sub(characters.len()), area)
@@ -34,7 +36,8 @@ fn put_text(characters: &[u8], size: usize, area: &mut Vec<u8>) -> Result<(), Al
 
 /// Adds digits with zeros on their left.
 fn put_digits(digits: &[u8], size: usize, area: &mut Vec<u8>) -> Result<(), AllocError>
-    ensures { IfOk result (λ _. area.new.items ≡ area.old.items ++ (zeros (size - length digits.now) ++ digits.now)) }
+    ensures { IfOk result
+        (λ _. area.new.items ≡ area.old.items ++ (zeros (size - length digits.now) ++ digits.now)) }
 {
     put_many(b'0', size.saturating_sub(digits.len()), area)?;
     area.extend_from_slice(digits)?;
@@ -52,8 +55,8 @@ fn put_opening(item: &Item, area: &mut Vec<u8>) -> Result<(), AllocError>
             put_text(literal.characters.as_bytes(), size, area)
         }
         (_, Some(Value::Number(number))) => put_digits(number.digits.as_bytes(), size, area),
-        (_, Some(Value::Spaces(_))) | (ItemSort::Characters, None) => put_many(b' ', size, area),
-        (_, Some(Value::Zeros(_))) | (ItemSort::Digits, None) => put_many(b'0', size, area),
+        (_, Some(Value::Spaces(_))) | (ItemSort::Alphanumeric, None) => put_many(b' ', size, area),
+        (_, Some(Value::Zeros(_))) | (ItemSort::Numeric, None) => put_many(b'0', size, area),
     }
 }
 
@@ -67,8 +70,10 @@ fn begins_record(item: &Item) -> bool
 /// Adds the characters of the items from a place on up to the next record, whose place is given.
 fn put_below(items: &[Item], from: usize, area: &mut Vec<u8>) -> Result<usize, AllocError>
     requires { from ≤ length items.now }
-    ensures characters { IfOk result (λ _. area.new.items ≡ area.old.items ++ (fill (drop from items.now)).0) }
-    ensures others { IfOk result (λ past. (fill (drop past items.now)).1 ≡ (fill (drop from items.now)).1) }
+    ensures characters { IfOk result
+        (λ _. area.new.items ≡ area.old.items ++ (fill (drop from items.now)).0) }
+    ensures others { IfOk result
+        (λ past. (fill (drop past items.now)).1 ≡ (fill (drop from items.now)).1) }
     ensures past { IfOk result (λ past. (from ≤ past) × (past ≤ length items.now)) }
 {
     let mut place = from;
@@ -153,7 +158,9 @@ fn put_cd_areas(
     areas: &mut Vec<Rows<u8>>,
 ) -> Result<(), AllocError>
     requires { list_all (λ entry. is_body_right entry.body) entries.now ≡ true }
-    ensures { IfOk result (λ _. areas.new.items ≡ areas.old.items ++ map (λ entry. opening_cd entry.body) entries.now) }
+    ensures { IfOk result
+        (λ _. areas.new.items ≡ areas.old.items ++ map
+        (λ entry. opening_cd entry.body) entries.now) }
 {
     'entries: for entry in entries {
         areas.push(opening_cd(alloc, &entry.body)?)?;
@@ -161,8 +168,8 @@ fn put_cd_areas(
     Ok(())
 }
 
-/// The areas of a program as they begin: those of the records of Working-Storage, each filled from the
-/// values of its items, and then those of the CDs.
+/// The areas of a program as they begin: those of the records of Working-Storage, each filled from
+/// the values of its items, and then those of the CDs.
 pub fn opening_storage(alloc: Global, division: &DataDivision) -> Result<Rows<Rows<u8>>, AllocError>
     // Each table has 1 to 8 destinations.
     requires { HasOccurrences division.now }

@@ -15,8 +15,8 @@ pub(crate) fn sort_of(picture: &[u8]) -> ItemSort
     ensures { result ≡ sort_of picture.now }
 {
     match picture {
-        [b'9', ..] => ItemSort::Digits,
-        _ => ItemSort::Characters,
+        [b'9', ..] => ItemSort::Numeric,
+        _ => ItemSort::Alphanumeric,
     }
 }
 
@@ -25,8 +25,8 @@ pub(crate) fn size_of(picture: &[u8]) -> Option<u32>
     ensures { result ≡ size_of picture.now }
 {
     let (unit, most) = match sort_of(picture) {
-        ItemSort::Digits => (b'9', 18),
-        ItemSort::Characters | ItemSort::Group => (b'X', 2000),
+        ItemSort::Numeric => (b'9', 18),
+        ItemSort::Alphanumeric | ItemSort::Group => (b'X', 2000),
     };
     match characters(unit, picture) {
         Some(n) if 1 <= n && n <= most => Some(n),
@@ -51,8 +51,8 @@ fn characters(unit: u8, picture: &[u8]) -> Option<u32>
     Some(total)
 }
 
-/// For how many characters a unit stands, or [`PAST`] where they are more, by what is behind it; and how
-/// many bytes the count has.
+/// For how many characters a unit stands, or [`PAST`] where they are more, by what is behind it;
+/// and how many bytes the count has.
 fn count_at(behind: &[u8]) -> (u32, usize)
     ensures count { result.0 ≡ min (unit_by behind.now).0 PAST }
     ensures counted { result.1 ≡ (unit_by behind.now).1 }

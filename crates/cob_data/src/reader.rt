@@ -32,7 +32,8 @@ impl Sort {
 
 /// The parts behind a token with which a form begins.
 fn parts_behind(form: Form, token: &Token) -> Option<&'static [Part]>
-    ensures { option_map (λ parts. parts_of parts.now) result ≡ behind (alternatives_of (form_of form)) token.now }
+    ensures { option_map (λ parts. parts_of parts.now) result
+        ≡ behind (alternatives_of (form_of form)) token.now }
 {
     'alternatives: for alternative in form.alternatives() {
         if alternative.0.takes(token) {
@@ -42,10 +43,11 @@ fn parts_behind(form: Form, token: &Token) -> Option<&'static [Part]>
     None
 }
 
-/// The parts of a form behind its first token, and the tokens behind that one, where the form begins
-/// with the next token.
+/// The parts of a form behind its first token, and the tokens behind that one, where the form
+/// begins with the next token.
 fn entered<'a>(form: Form, tokens: &'a [Token]) -> Option<(&'static [Part], &'a [Token])>
-    ensures begins { MatchOption result (BeginsNot (form_of form) tokens.now) (λ x. BeginsWith (form_of form) tokens.now (parts_of x.0.now) x.1.now) }
+    ensures begins { MatchOption result (BeginsNot (form_of form) tokens.now)
+        (λ x. BeginsWith (form_of form) tokens.now (parts_of x.0.now) x.1.now) }
     ensures fewer { IfSome result (λ x. length x.1.now < length tokens.now) }
 {
     let [token, rest @ ..] = tokens else {
@@ -59,7 +61,9 @@ fn entered<'a>(form: Form, tokens: &'a [Token]) -> Option<(&'static [Part], &'a 
 
 /// What is left behind a token of a sort.
 fn read_token<'a>(sort: Sort, tokens: &'a [Token]) -> Result<&'a [Token], Wanted>
-    ensures read { MatchResult result (λ rest. ReadsTo (token (sort_of sort) ∷ []) tokens.now rest.now) (λ wanted. StopsAt (token (sort_of sort) ∷ []) tokens.now wanted.left) }
+    ensures read { MatchResult result
+        (λ rest. ReadsTo (token (sort_of sort) ∷ []) tokens.now rest.now)
+        (λ wanted. StopsAt (token (sort_of sort) ∷ []) tokens.now wanted.left) }
     ensures no_more { IfOk result (λ rest. length rest.now ≤ length tokens.now) }
 {
     let [token, rest @ ..] = tokens else {
@@ -75,7 +79,8 @@ fn read_token<'a>(sort: Sort, tokens: &'a [Token]) -> Result<&'a [Token], Wanted
 /// What is left behind a part.
 #[cycle(read)]
 pub(crate) fn read_part<'a>(part: Part, tokens: &'a [Token]) -> Result<&'a [Token], Wanted>
-    ensures read { MatchResult result (λ rest. ReadsTo (part_of part ∷ []) tokens.now rest.now) (λ wanted. StopsAt (part_of part ∷ []) tokens.now wanted.left) }
+    ensures read { MatchResult result (λ rest. ReadsTo (part_of part ∷ []) tokens.now rest.now)
+        (λ wanted. StopsAt (part_of part ∷ []) tokens.now wanted.left) }
     ensures no_more { IfOk result (λ rest. length rest.now ≤ length tokens.now) }
 {
     match part {
@@ -95,7 +100,8 @@ pub(crate) fn read_part<'a>(part: Part, tokens: &'a [Token]) -> Result<&'a [Toke
 /// What is left behind the parts of a form.
 #[cycle(read)]
 pub(crate) fn read_parts<'a>(parts: &[Part], tokens: &'a [Token]) -> Result<&'a [Token], Wanted>
-    ensures read { MatchResult result (λ rest. ReadsTo (parts_of parts.now) tokens.now rest.now) (λ wanted. StopsAt (parts_of parts.now) tokens.now wanted.left) }
+    ensures read { MatchResult result (λ rest. ReadsTo (parts_of parts.now) tokens.now rest.now)
+        (λ wanted. StopsAt (parts_of parts.now) tokens.now wanted.left) }
     ensures no_more { IfOk result (λ rest. length rest.now ≤ length tokens.now) }
 {
     let mut rest = tokens;
@@ -108,7 +114,9 @@ pub(crate) fn read_parts<'a>(parts: &[Part], tokens: &'a [Token]) -> Result<&'a 
 /// What is left behind all further turns of a form.
 #[cycle(read)]
 fn read_turns<'a>(form: Form, tokens: &'a [Token]) -> Result<&'a [Token], Wanted>
-    ensures read { MatchResult result (λ rest. ReadsTo (more (form_of form) ∷ []) tokens.now rest.now) (λ wanted. StopsAt (more (form_of form) ∷ []) tokens.now wanted.left) }
+    ensures read { MatchResult result
+        (λ rest. ReadsTo (more (form_of form) ∷ []) tokens.now rest.now)
+        (λ wanted. StopsAt (more (form_of form) ∷ []) tokens.now wanted.left) }
     ensures no_more { IfOk result (λ rest. length rest.now ≤ length tokens.now) }
 {
     let mut rest = tokens;

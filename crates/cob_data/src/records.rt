@@ -1,11 +1,11 @@
 //! The sizes of records.
-ghost use Rattle.std.specs.Prelude.{◌≡◌, ◌≤◌, ◌<◌, ◌^◌, [], length};
+ghost use Rattle.std.specs.Prelude.{◌≡◌, ◌≤◌, ◌<◌, ◌&&◌, ◌^◌, [], None, if◌then◌else◌, length, not};
 ghost use Rattle.std.specs.List.{list_any};
 ghost use Rattle.cob_forms.specs.Faults.{first};
 ghost use Rattle.cob_data.specs.Clauses.{area_length, occurrences, or_one};
 ghost use Rattle.cob_data.specs.Entries.{picture_in, run};
-ghost use Rattle.cob_data.specs.Faults.{extent_length, first_item, is_bad, is_record_right, over, record_faults, record_size, size_faults};
-ghost use Rattle.cob_data.specs.Levels.{below};
+ghost use Rattle.cob_data.specs.Faults.{counting_items, cover_behind, extent_length, first_item, is_bad, is_covered, is_record_right, over, rank_if_elementary, record_faults, record_size, size_faults};
+ghost use Rattle.cob_data.specs.Levels.{below, own_size};
 
 use crate::cds::{is_input, number_in};
 use crate::entries::is_cd;
@@ -33,28 +33,89 @@ fn is_bad(item: &[Token]) -> bool
     }
 }
 
-/// Whether a picture of some items is not formed as one.
-fn has_bad(items: &[Entry]) -> bool
-    ensures { result ≡ list_any (λ item. is_bad (picture_in item)) items.now }
+/// Whether an item stands below an elementary one, which has this rank if there is one.
+fn is_covered(cover: Option<u64>, item: &Entry) -> bool
+    ensures { result ≡ is_covered cover item.now }
 {
-    items.iter().any(|item| is_bad(item.tokens()))
+    match cover {
+        Some(rank) => rank < item.rank(),
+        None => false,
+    }
 }
 
-/// How many characters a record has.
+/// The rank of an item that is elementary.
+fn rank_if_elementary(item: &Entry) -> Option<u64>
+    ensures { result ≡ rank_if_elementary item.now }
+{
+    if is_group(item.tokens()) {
+        None
+    } else {
+        Some(item.rank())
+    }
+}
+
+/// The rank of the elementary item below which the item behind another may stand.
+fn cover_behind(cover: Option<u64>, item: &Entry) -> Option<u64>
+    ensures { result ≡ cover_behind cover item.now }
+{
+    if is_covered(cover, item) {
+        cover
+    } else {
+        rank_if_elementary(item)
+    }
+}
+
+/// Whether an item counts and has a picture that is not formed as one.
+fn is_bad_counted(cover: Option<u64>, item: &Entry) -> bool
+    ensures { result ≡ (not (is_covered cover item.now) && is_bad (picture_in item.now)) }
+{
+    !is_covered(cover, item) && is_bad(item.tokens())
+}
+
+/// Whether a picture of the items that count is not formed as one.
+fn has_bad(items: &[Entry]) -> bool
+    ensures { result ≡ list_any (λ item. is_bad (picture_in item)) (counting_items None items.now) }
+{
+    let mut cover = None;
+    for item in items {
+        if is_bad_counted(cover, item) {
+            return true;
+        }
+        cover = cover_behind(cover, item);
+    }
+    false
+}
+
+/// How many characters an item has by its own picture, and none where it does not count.
+fn counted_size(cover: Option<u64>, item: &Entry) -> u32
+    ensures size { result ≡ (if is_covered cover item.now then 0 else own_size item.now) }
+    ensures most { result ≤ 2000 }
+{
+    if is_covered(cover, item) {
+        0
+    } else {
+        item.size()
+    }
+}
+
+/// How many characters the items that count have together.
 fn record_size(items: &[Entry]) -> u32
     requires { length items.now ≤ MAX_SOURCE }
-    ensures { result ≡ record_size items.now }
+    ensures { result ≡ record_size (counting_items None items.now) }
 {
     let mut size = 0;
-    'items: for item in items {
-        size += item.size();
+    let mut cover = None;
+    for item in items {
+        size += counted_size(cover, item);
+        cover = cover_behind(cover, item);
     }
     size
 }
 
-/// The tokens of the first of some items.
+/// The tokens of the first of some items, which always counts.
+#[tactic(auto, using(crate::proofs::CountedLaws::first_counted))]
 fn first_item<'a>(items: &[Entry<'a>]) -> &'a [Token]
-    ensures { result.now ≡ first_item items.now }
+    ensures { result.now ≡ first_item (counting_items None items.now) }
 {
     match items.first() {
         Some(item) => item.tokens(),
@@ -84,8 +145,8 @@ fn area_length(entry: &[Token]) -> u64
     }
 }
 
-/// How many characters each record behind a header or a CD entry has to have: behind a CD entry, as many as
-/// its area.
+/// How many characters each record behind a header or a CD entry has to have: behind a CD entry, as
+/// many as its area.
 pub(crate) fn over(head: &[Token]) -> Option<u64>
     ensures { result ≡ over (run head.now []) }
 {
@@ -129,8 +190,8 @@ pub(crate) fn extent_length(items: &[Entry]) -> usize
     }
 }
 
-/// The first fault of the size of the item that begins a record, by how many characters the area has that it is
-/// over.
+/// The first fault of the size of the item that begins a record, by how many characters the area
+/// has that it is over.
 pub(crate) fn first_record_fault(area: Option<u64>, items: &[Entry]) -> Option<SourceFault>
     requires { length items.now ≤ MAX_SOURCE }
     ensures { result ≡ first (record_faults area items.now) }
@@ -139,10 +200,11 @@ pub(crate) fn first_record_fault(area: Option<u64>, items: &[Entry]) -> Option<S
     first_size_fault(area, these)
 }
 
-/// The first fault of the size of some items together. Where a picture is not formed as one, no more is said.
+/// The first fault of the size of the items that count together. Where a picture of them is not
+/// formed as one, no more is said.
 fn first_size_fault(area: Option<u64>, items: &[Entry]) -> Option<SourceFault>
     requires { length items.now ≤ MAX_SOURCE }
-    ensures { result ≡ first (size_faults area items.now) }
+    ensures { result ≡ first (size_faults area (counting_items None items.now)) }
 {
     let is_bad = has_bad(items);
     let size = record_size(items);

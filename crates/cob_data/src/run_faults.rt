@@ -1,7 +1,7 @@
 //! The faults of items run by run: of their levels, of whole items, and of records.
-ghost use Rattle.std.specs.Prelude.{◌≡◌, ◌≤◌, [], IfOk, drop, if◌then◌else◌, length, nat_lt, not};
+ghost use Rattle.std.specs.Prelude.{◌≡◌, ◌≤◌, ◌&&◌, [], IfOk, drop, if◌then◌else◌, length, nat_lt, not};
 ghost use Rattle.cob_forms.specs.Faults.{first};
-ghost use Rattle.cob_data.specs.Entries.{parted, run};
+ghost use Rattle.cob_data.specs.Entries.{split_runs, run};
 ghost use Rattle.cob_data.specs.Faults.{is_counted, over, record_faults, records_faults, run_faults, runs_faults};
 ghost use Rattle.cob_data.specs.Levels.{records_of};
 
@@ -26,8 +26,8 @@ fn has_record(items: &[Entry], from: usize) -> bool
     }
 }
 
-/// Whether a record counts, by the place behind it: a further token stands behind what its first item is
-/// made of.
+/// Whether a record counts, by the place behind it: a further token stands behind what its first
+/// item is made of.
 fn is_counted(is_last: bool, items: &[Entry], past: usize, record: &[Entry]) -> bool
     requires { past ≤ length items.now }
     ensures { result ≡ is_counted is_last (records_of (drop past items.now)) record.now }
@@ -81,7 +81,7 @@ fn first_fault_of(
 /// Whether a further header or CD entry stands behind a place.
 fn has_run(entries: &[Entry], from: usize) -> bool
     requires { from ≤ length entries.now }
-    ensures { result ≡ nat_lt 0 (length (parted (drop from entries.now)).1) }
+    ensures { result ≡ nat_lt 0 (length (split_runs (drop from entries.now)).1) }
 {
     match next_run(entries, from) {
         Some(_) => true,
@@ -89,18 +89,30 @@ fn has_run(entries: &[Entry], from: usize) -> bool
     }
 }
 
-/// The first fault of items by their levels, groups, values and records.
+/// Whether no token stands behind the run that ends at a place.
+fn is_last_run(is_followed: bool, entries: &[Entry], past: usize) -> bool
+    requires { past ≤ length entries.now }
+    ensures { result ≡ (not is_followed
+        && not (nat_lt 0 (length (split_runs (drop past entries.now)).1))) }
+{
+    !is_followed && !has_run(entries, past)
+}
+
+/// The first fault of items by their levels, groups, values and records, by whether further tokens
+/// stand behind the last entry.
 pub(crate) fn first_run_fault(
     alloc: Global,
+    is_followed: bool,
     entries: &[Entry],
 ) -> Result<Option<SourceFault>, AllocError>
     requires { length entries.now ≤ MAX_SOURCE }
-    ensures { IfOk result (λ found. found ≡ first (runs_faults (parted entries.now).1)) }
+    ensures { IfOk result
+        (λ found. found ≡ first (runs_faults is_followed (split_runs entries.now).1)) }
 {
     let mut found = None;
     let mut place = 0;
     'runs: while let Some((head, items, past)) = next_run(entries, place) {
-        let is_last = !has_run(entries, past);
+        let is_last = is_last_run(is_followed, entries, past);
         let here = first_fault_of(alloc, is_last, head.tokens(), items)?;
         found = first_of(found, here);
         place = past;

@@ -1,7 +1,7 @@
-//! Runs, each a header or a CD entry with the items behind it; and records, each an item of level 01 or 77 with
-//! the items behind it.
+//! Runs, each a header or a CD entry with the items behind it; and records, each an item of level
+//! 01 or 77 with the items behind it.
 ghost use Rattle.std.specs.Prelude.{◌≡◌, ◌≤◌, ◌<◌, ◌+◌, [], ◌∷◌, IfOk, IfSome, MatchOption, drop, length, not, take_while};
-ghost use Rattle.cob_data.specs.Entries.{described, is_item, parted, run};
+ghost use Rattle.cob_data.specs.Entries.{described, is_item, split_runs, run};
 ghost use Rattle.cob_data.specs.Levels.{is_record, records_of};
 
 use crate::entries::{Entries, is_item};
@@ -30,7 +30,9 @@ pub(crate) fn next_run<'b, 'a>(
     from: usize,
 ) -> Option<(&'b Entry<'a>, &'b [Entry<'a>], usize)>
     requires { from ≤ length entries.now }
-    ensures run { MatchOption result ((parted (drop from entries.now)).1 ≡ []) (λ x. (parted (drop from entries.now)).1 ≡ run x.0.now x.1.now ∷ (parted (drop x.2 entries.now)).1) }
+    ensures run { MatchOption result ((split_runs (drop from entries.now)).1 ≡ [])
+        (λ x. (split_runs (drop from entries.now)).1
+        ≡ run x.0.now x.1.now ∷ (split_runs (drop x.2 entries.now)).1) }
     ensures past { IfSome result (λ x. (from < x.2) × (x.2 ≤ length entries.now)) }
     ensures items { IfSome result (λ x. from + length x.1.now < x.2) }
 {
@@ -62,7 +64,8 @@ pub(crate) fn next_record<'b, 'a>(
     from: usize,
 ) -> Option<(&'b [Entry<'a>], usize)>
     requires { from ≤ length items.now }
-    ensures items { MatchOption result (records_of (drop from items.now) ≡ []) (λ x. records_of (drop from items.now) ≡ x.0.now ∷ records_of (drop x.1 items.now)) }
+    ensures items { MatchOption result (records_of (drop from items.now) ≡ [])
+        (λ x. records_of (drop from items.now) ≡ x.0.now ∷ records_of (drop x.1 items.now)) }
     ensures past { IfSome result (λ x. (from < x.1) × (x.1 ≤ length items.now)) }
     ensures within { IfSome result (λ x. length x.0.now ≤ length items.now) }
 {

@@ -10,8 +10,11 @@ pub(crate) fn add_text<'a>(
     text: &'a [u8],
     texts: &mut IndexSet<&'a [u8]>,
 ) -> Result<bool, AllocError>
-    ensures is_new { IfOk result (λ is_new. is_new ≡ not (list_any (bytes_eq text.now) (map (λ k. k.now) texts.old.keys))) }
-    ensures texts { OnOk result ((other : List ℕ) → list_any (bytes_eq other) (map (λ k. k.now) texts.new.keys) ≡ list_any (bytes_eq other) (text.now ∷ map (λ k. k.now) texts.old.keys)) }
+    ensures is_new { IfOk result
+        (λ is_new. is_new ≡ not (list_any (bytes_eq text.now) (map (λ k. k.now) texts.old.keys))) }
+    ensures texts { OnOk result ((other : List ℕ)
+        → list_any (bytes_eq other) (map (λ k. k.now) texts.new.keys)
+        ≡ list_any (bytes_eq other) (text.now ∷ map (λ k. k.now) texts.old.keys)) }
 {
     Ok(texts.insert(text)?)
 }

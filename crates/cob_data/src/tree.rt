@@ -1,11 +1,12 @@
-//! What the divisions before the Procedure Division are made of. Each part of a form is a field, in written
-//! order.
+//! What the divisions before the Procedure Division are made of. Each part of a form is a field, in
+//! written order.
 use cob_forms::{Literal, Name, Number, Position};
+use com_cd::{InField, OutField};
 use com_text::{Rows, Text};
 
-/// The divisions of a program up to the word PROCEDURE, named by the last of them: the program's name, the words of
-/// SOURCE-COMPUTER and OBJECT-COMPUTER where they are written, and the two sections of the Data
-/// Division.
+/// The divisions of a program up to the word PROCEDURE, named by the last of them: the program's
+/// name, the words of SOURCE-COMPUTER and OBJECT-COMPUTER where they are written, and the two
+/// sections of the Data Division.
 #[derive(Debug, Drop)]
 pub struct DataDivision {
     pub program: Name,
@@ -25,9 +26,9 @@ pub struct Item {
     pub place: ItemPlace,
 }
 
-/// Where the characters of an item are: the number of its area, from 0, their place there, from 0, how
-/// many they are, and their sort. The areas are those of the records of Working-Storage, in written
-/// order, and then those of the CDs. A record over a CD is in the area of the CD.
+/// Where the characters of an item are: the number of its area, from 0, their place there, from 0,
+/// how many they are, and their sort. The areas are those of the records of Working-Storage, in
+/// written order, and then those of the CDs. A record over a CD is in the area of the CD.
 #[derive(Clone, Copy, Debug, PartialEq, Eq)]
 pub struct ItemPlace {
     pub area: u32,
@@ -40,9 +41,9 @@ pub struct ItemPlace {
 #[derive(Clone, Copy, Debug, PartialEq, Eq)]
 pub enum ItemSort {
     /// A picture of X.
-    Characters,
+    Alphanumeric,
     /// A picture of 9.
-    Digits,
+    Numeric,
     /// No picture.
     Group,
 }
@@ -97,34 +98,22 @@ pub enum CdBody {
 #[derive(Debug, Drop)]
 pub struct InputClause {
     pub position: Position,
-    pub field: InputField,
+    pub field: InField,
     pub name: Name,
-}
-
-/// The fields of an input CD, in the order of its area.
-#[derive(Clone, Copy, Debug, PartialEq, Eq)]
-pub enum InputField {
-    Queue,
-    SubQueue1,
-    SubQueue2,
-    SubQueue3,
-    MessageDate,
-    MessageTime,
-    Source,
-    TextLength,
-    EndKey,
-    StatusKey,
-    MessageCount,
 }
 
 /// A clause of an output CD, with where it begins.
 #[derive(Debug, Drop)]
 pub enum OutputClause {
-    DestinationCount { position: Position, name: Name },
-    TextLength { position: Position, name: Name },
-    StatusKey { position: Position, name: Name },
+    /// The name for a field. ERROR KEY and SYMBOLIC DESTINATION are those of the first occurrence.
+    Field {
+        position: Position,
+        field: OutField,
+        name: Name,
+    },
     /// DESTINATION TABLE OCCURS number TIMES.
-    Table { position: Position, occurs: Number },
-    ErrorKey { position: Position, name: Name },
-    Destination { position: Position, name: Name },
+    Table {
+        position: Position,
+        occurs: Number,
+    },
 }

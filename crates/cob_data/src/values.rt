@@ -3,7 +3,7 @@ ghost use Rattle.std.specs.Prelude.{◌≡◌, IfOk, option_map};
 ghost use Rattle.cob_forms.specs.Faults.{first};
 ghost use Rattle.cob_data.specs.Entries.{picture_in, value_in};
 ghost use Rattle.cob_data.specs.Pictures.{size_of, sort_of};
-ghost use Rattle.cob_data.specs.Faults.{kind_at, sized_value, up_to, value_faults, value_kind, valued};
+ghost use Rattle.cob_data.specs.Faults.{kind_at, sized_value, up_to, value_faults, value_kind, wrong_value};
 
 use crate::entry::picture_in;
 use crate::items::{value_in, value_of};
@@ -29,18 +29,18 @@ fn value_kind(sort: ItemSort, size: u32, value: &Value) -> Option<SourceKind>
     ensures { result ≡ value_kind sort size value.now }
 {
     match (sort, value) {
-        (ItemSort::Characters, Value::Literal(literal)) => {
+        (ItemSort::Alphanumeric, Value::Literal(literal)) => {
             up_to(size, literal.characters.as_bytes().len())
         }
-        (ItemSort::Digits, Value::Number(number)) => up_to(size, number.digits.as_bytes().len()),
-        (ItemSort::Characters, Value::Spaces(_) | Value::Zeros(_)) => None,
-        (ItemSort::Digits, Value::Zeros(_)) => None,
+        (ItemSort::Numeric, Value::Number(number)) => up_to(size, number.digits.as_bytes().len()),
+        (ItemSort::Alphanumeric, Value::Spaces(_) | Value::Zeros(_)) => None,
+        (ItemSort::Numeric, Value::Zeros(_)) => None,
         _ => Some(SourceKind::WrongKind),
     }
 }
 
-/// What is wrong with the value of an item that is elementary. Where the picture is not formed as one, no
-/// more is said.
+/// What is wrong with the value of an item that is elementary. Where the picture is not formed as
+/// one, no more is said.
 fn sized_value(picture: &[u8], value: &Value) -> Option<SourceKind>
     ensures { result ≡ sized_value (size_of picture.now) (sort_of picture.now) value.now }
 {
@@ -52,8 +52,8 @@ fn sized_value(picture: &[u8], value: &Value) -> Option<SourceKind>
 
 /// What is wrong with the value of an item, which may only stand at an elementary item of
 /// Working-Storage.
-fn valued(over_cd: bool, item: &[Token], value: &Value) -> Option<SourceKind>
-    ensures { result ≡ valued over_cd (picture_in item.now) value.now }
+fn wrong_value(over_cd: bool, item: &[Token], value: &Value) -> Option<SourceKind>
+    ensures { result ≡ wrong_value over_cd (picture_in item.now) value.now }
 {
     match picture_in(item) {
         Some(picture) if !over_cd => sized_value(picture.text.as_bytes(), value),
@@ -77,12 +77,13 @@ pub(crate) fn value_fault(
     over_cd: bool,
     item: &[Token],
 ) -> Result<Option<SourceFault>, AllocError>
-    ensures { IfOk result (λ found. found ≡ first (value_faults over_cd (picture_in item.now) (value_in item.now))) }
+    ensures { IfOk result
+        (λ found. found ≡ first (value_faults over_cd (picture_in item.now) (value_in item.now))) }
 {
     match value_in(item) {
         Some(token) => {
             let value = value_of(alloc, token)?;
-            Ok(fault_of(valued(over_cd, item, &value), token))
+            Ok(fault_of(wrong_value(over_cd, item, &value), token))
         }
         None => Ok(None),
     }

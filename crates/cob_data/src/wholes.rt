@@ -64,15 +64,17 @@ fn item_fault(
     Ok(first_of(group, value))
 }
 
-/// The first fault of the item at the front. The last item of a text is not looked at, and the last one of a
-/// run that another follows has none behind it.
+/// The first fault of the item at the front. The last item of a text is not looked at, and the last
+/// one of a run that another follows has none behind it.
 fn front_fault(
     alloc: Global,
     is_last: bool,
     over_cd: bool,
     items: &[Entry],
 ) -> Result<Option<SourceFault>, AllocError>
-    ensures { IfOk result (λ found. earlier found (first (whole_faults is_last over_cd (drop 1 items.now))) ≡ first (whole_faults is_last over_cd items.now)) }
+    ensures { IfOk result
+        (λ found. earlier found (first (whole_faults is_last over_cd (drop 1 items.now)))
+        ≡ first (whole_faults is_last over_cd items.now)) }
 {
     match items {
         [item, next, ..] => item_fault(alloc, over_cd, next.rank(), item),

@@ -17,7 +17,7 @@ use Rattle.cob_forms.specs.Spelling.{Spelling, ◌⊙◌, a, made, placed, unles
 use Rattle.cob_forms.specs.Written.{literal_of, name_of, number_of, position_of}
 use Rattle.cob_data.specs.declared.tree.ItemPlace.{ItemPlace}
 use Rattle.cob_data.specs.declared.tree.ItemSort.{ItemSort}
-use Rattle.cob_data.specs.declared.tree.ItemSort.TheVariants.{Characters as Alphanumeric, Digits as Numeric, Group}
+use Rattle.cob_data.specs.declared.tree.ItemSort.TheVariants.{Alphanumeric, Numeric, Group}
 use Rattle.cob_data.specs.Layout.{Referent, data_at, input_cd, output_cd}
 use Rattle.cob_proc.specs.declared.tree.Addend.{Addend}
 use Rattle.cob_proc.specs.declared.tree.Addend.TheVariants as addends

@@ -6,7 +6,7 @@ use Rattle.com_events.specs.declared.call.Call.TheVariants as call
 use Rattle.com_events.specs.declared.call.StopReason.TheVariants as stop
 use Rattle.com_msg.specs.declared.sending.Part.TheVariants as part
 use Rattle.cob_proc.specs.Trees.{Tree, ParagraphTree}
-use Rattle.cob_data.specs.declared.tree.ItemSort.TheVariants.{Characters as Alphanumeric, Digits as Numeric, Group}
+use Rattle.cob_data.specs.declared.tree.ItemSort.TheVariants.{Alphanumeric, Numeric, Group}
 use Rattle.cob_data.specs.Layout.{Referent, input_cd, output_cd}
 use Rattle.cob_meaning.specs.Layouts.{Layout}
 use Rattle.cob_meaning.specs.Meaning.{Ending, Stopped, Wants, Meaning, Program, meaning}

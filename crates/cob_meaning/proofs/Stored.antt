@@ -21,7 +21,7 @@ use Rattle.cob_proc.specs.declared.tree.Operand.TheVariants as operands
 use Rattle.cob_proc.specs.declared.tree.Subscript.{Subscript}
 use Rattle.cob_data.specs.declared.tree.ItemPlace.{ItemPlace}
 use Rattle.cob_data.specs.declared.tree.ItemSort.{ItemSort}
-use Rattle.cob_data.specs.declared.tree.ItemSort.TheVariants.{Characters as Alphanumeric, Digits as Numeric, Group}
+use Rattle.cob_data.specs.declared.tree.ItemSort.TheVariants.{Alphanumeric, Numeric, Group}
 use Rattle.cob_data.specs.Layout.{Declared, Referent, data_at, input_cd, output_cd}
 use Rattle.cob_meaning.specs.Layouts.{◌>>=◌, Layout, occurrence, referent, step}
 use Rattle.cob_meaning.specs.Moves.{Content, a_number, a_text, a_group, all_spaces, all_zeros, addend_number, combined, content_at, content_of, filled, from_left, from_right, item_at, item_by, move, moved, subscript_number, subscripted_item}

@@ -91,6 +91,21 @@ procedure_column : text_fault (source (codes "       IDENTIFICATION DIVISION." �
 unfolding lines_tokens text_tokens front_of next reading
 procedure_column = refl
 
+-- a source that ends with the word PROCEDURE wants another word there; whether the item before it is a group is not said
+procedure_last : text_fault (source (codes "       IDENTIFICATION DIVISION." ∷ codes "       PROGRAM-ID. P." ∷ codes "       DATA DIVISION." ∷ codes "       WORKING-STORAGE SECTION." ∷ codes "       01  A." ∷ codes "       PROCEDURE" ∷ [])) ≡ Some (fault 6 8 faults.WantedWord)
+unfolding lines_tokens text_tokens front_of next reading
+procedure_last = refl
+
+-- nor does its column count there
+procedure_last_in_area_b : text_fault (source (codes "       IDENTIFICATION DIVISION." ∷ codes "       PROGRAM-ID. P." ∷ codes "       DATA DIVISION." ∷ codes "           PROCEDURE" ∷ [])) ≡ Some (fault 4 12 faults.WantedWord)
+unfolding lines_tokens text_tokens front_of next reading
+procedure_last_in_area_b = refl
+
+-- a group without items before PROCEDURE DIVISION is one
+group_before_division : text_fault (source (codes "       IDENTIFICATION DIVISION." ∷ codes "       PROGRAM-ID. P." ∷ codes "       DATA DIVISION." ∷ codes "       WORKING-STORAGE SECTION." ∷ codes "       01  A." ∷ codes "       PROCEDURE DIVISION." ∷ codes "       MAIN." ∷ codes "           STOP RUN." ∷ [])) ≡ Some (fault 5 8 faults.WrongKind)
+unfolding lines_tokens text_tokens front_of next reading
+group_before_division = refl
+
 -- an empty source wants its first word at line 1 column 1
 empty : text_fault [] ≡ Some (fault 1 1 faults.WantedWord)
 unfolding lines_tokens text_tokens front_of next reading

@@ -18,7 +18,7 @@ use Rattle.cob_proc.specs.Spelled.{IsProcedure}
 use Rattle.cob_proc.specs.Trees.{Tree, ParagraphTree}
 use Rattle.cob_proc.proofs.DivisionSpelled.{procedure_spelled}
 use Rattle.cob_proc.proofs.WorkedSources.{tokens_in}
-use Rattle.cob_data.specs.declared.tree.ItemSort.TheVariants.{Characters as Alphanumeric, Digits as Numeric, Group}
+use Rattle.cob_data.specs.declared.tree.ItemSort.TheVariants.{Alphanumeric, Numeric, Group}
 use Rattle.cob_data.specs.Layout.{Referent, input_cd, output_cd}
 use Rattle.cob_meaning.specs.Meaning.{Program}
 use Rattle.cob_meaning.specs.Sources.{IsProgramOf, IsSourceFaultOf, Spells, of_text, of_trees}

@@ -10,7 +10,7 @@ use Rattle.com_msg.specs.declared.sending.TheConstants.{MAX_LINES}
 use Rattle.com_events.specs.declared.call.TheConstants.{MAX_KEY_LENGTH}
 use Rattle.cob_forms.specs.declared.written.Name.{Name}
 use Rattle.cob_data.specs.declared.tree.ItemPlace.{ItemPlace}
-use Rattle.cob_data.specs.declared.tree.ItemSort.TheVariants.{Digits as Numeric}
+use Rattle.cob_data.specs.declared.tree.ItemSort.TheVariants.{Numeric}
 use Rattle.cob_data.specs.Layout.{data_at, input_cd, output_cd}
 use Rattle.cob_proc.specs.declared.tree.Addend.{Addend}
 use Rattle.cob_proc.specs.declared.tree.Addend.TheVariants as addends

@@ -13,7 +13,7 @@ use Rattle.cob_proc.specs.declared.tree.Subscript.{Subscript}
 use Rattle.cob_proc.specs.declared.tree.Subscript.TheVariants as subscript
 use Rattle.cob_data.specs.declared.tree.ItemPlace.{ItemPlace}
 use Rattle.cob_data.specs.declared.tree.ItemSort.{ItemSort}
-use Rattle.cob_data.specs.declared.tree.ItemSort.TheVariants.{Characters as Alphanumeric, Digits as Numeric, Group}
+use Rattle.cob_data.specs.declared.tree.ItemSort.TheVariants.{Alphanumeric, Numeric, Group}
 use Rattle.cob_data.specs.Layout.{Referent, data_at, input_cd, output_cd}
 use Rattle.cob_meaning.specs.Layouts.{◌>>=◌, Layout, item_of, occurrence, referent}
 use Rattle.cob_meaning.specs.Storage.{Storage, held_by, with_prefix, number_in, number_held}

@@ -33,7 +33,7 @@ use Rattle.cob_proc.specs.declared.tree.Subscript.TheVariants as subscripts
 use Rattle.cob_proc.specs.Trees.{Plain, moves, adds, subtracts, performs, goes, exits, stops, sends, switches_input, switches_output, accepts, Tree, plain, branches, receives, Block, none, lead, ParagraphTree}
 use Rattle.cob_data.specs.declared.tree.ItemPlace.{ItemPlace}
 use Rattle.cob_data.specs.declared.tree.ItemSort.{ItemSort}
-use Rattle.cob_data.specs.declared.tree.ItemSort.TheVariants.{Characters as Alphanumeric, Digits as Numeric, Group}
+use Rattle.cob_data.specs.declared.tree.ItemSort.TheVariants.{Alphanumeric, Numeric, Group}
 use Rattle.cob_data.specs.Layout.{Referent, data_at, input_cd, output_cd}
 use Rattle.cob_meaning.specs.Layouts.{Layout, item_of, referent}
 use Rattle.cob_meaning.specs.Meaning.{Program}

@@ -12,7 +12,7 @@ use Rattle.com_events.specs.declared.call.Call.TheVariants.{Receive, Count, Send
 use Rattle.com_events.specs.declared.reply.Reply.{Reply}
 use Rattle.com_events.specs.declared.reply.Reply.TheVariants.{Given, NoData, Refused, AreaIn, AreaOut}
 use Rattle.cob_data.specs.declared.tree.ItemPlace.{ItemPlace}
-use Rattle.cob_data.specs.declared.tree.ItemSort.TheVariants.{Digits as Numeric}
+use Rattle.cob_data.specs.declared.tree.ItemSort.TheVariants.{Numeric}
 use Rattle.cob_data.specs.Layout.{Referent, data_at, input_cd, output_cd}
 use Rattle.cob_meaning.specs.Layouts.{Layout, step}
 use Rattle.cob_meaning.specs.Meaning.{Ending, Stopped, Wants, Meaning}

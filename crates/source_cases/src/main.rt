@@ -1,9 +1,18 @@
+<<<<<<< HEAD
 //! Cases of COBOL sources, which go through three passes: their tokens, their divisions up to the
 //! word PROCEDURE, and their Procedure Division. Each line of `stdin` is a source: `division` has
 //! it whole, `items` the lines of its Working-Storage Section from line 5, and `entries` those of
 //! its Communication Section. `names` makes as many items as its number says, and has the lines
 //! behind them. `stdout` has the first fault, or the items and CDs with where their characters are;
 //! `opening` is like `items`, and `stdout` has the characters with which the areas begin.
+=======
+//! Cases of COBOL sources, which go through three passes: their tokens, their divisions up to the word
+//! PROCEDURE, and their Procedure Division. Each line of `stdin` is a source: `division` names its file,
+//! `items` the lines of its Working-Storage Section from line 5, and `entries` those of its Communication
+//! Section. `names` makes as many items as its number says, and has the lines behind them. `stdout` has the
+//! first fault, or the items and CDs with where their characters are; `opening` is like `items`, and `stdout`
+//! has the characters with which the areas begin.
+>>>>>>> d7fd395
 #![tactic(auto)]
 
 ghost use Rattle.std.specs.Prelude.{◌≤◌, IfOk, length};
@@ -12,25 +21,27 @@ ghost use Rattle.cob_lex.specs.Order.{AreInOrder};
 
 use case_lines::{Cases, Quoted, Words, answer_cases, unknown_call};
 use cob_data::{
-    CdBody, CdEntry, DataDivision, InputClause, InputField, Item, OutputClause, data_division,
-    opening_storage,
+    CdBody, CdEntry, DataDivision, InputClause, Item, OutputClause, data_division, opening_storage,
 };
 use cob_forms::Name;
 use cob_lex::{MAX_SOURCE, SourceError, SourceFault, Token, lex};
 use cob_proc::procedure_division;
+use com_cd::InField;
+use com_io::{DirStore, read_file};
 use std::alloc::{AllocError, Global};
-use std::io;
+use std::{io, str};
 
 /// The cases of sources.
 #[derive(Drop)]
-struct Sources {
+struct Sources<'a> {
+    rt: &'a HostRuntime,
     alloc: Global,
 }
 
-impl Cases for Sources {
+impl Cases for Sources<'_> {
     fn answer(&mut self, call: &[u8], words: &mut Words<'_>) -> Result<String, AllocError> {
         match call {
-            b"division" => answer_to(self.alloc, words.bytes(), false),
+            b"division" => answer_to_file(self.rt, words.bytes()),
             b"items" => {
                 let source = source_with(self.alloc, b"WORKING-STORAGE", words)?;
                 answer_to(self.alloc, &source, false)
@@ -93,6 +104,16 @@ fn source_of_names(alloc: Global, words: &mut Words<'_>) -> Result<Vec<u8>, Allo
     }
     push_lines(&mut source, words)?;
     Ok(source)
+}
+
+/// What the source in the file of this name tells, or its first fault.
+fn answer_to_file(rt: &HostRuntime, name: &[u8]) -> Result<String, AllocError> {
+    let alloc = rt.alloc();
+    let name = str::from_utf8(name).unwrap_or("");
+    match read_file(alloc, &mut DirStore::new(rt), name, MAX_SOURCE) {
+        Ok(source) => answer_to(alloc, &source, false),
+        Err(fault) => format!(in alloc; "{fault}"),
+    }
 }
 
 /// What a source tells, or its first fault.
@@ -203,7 +224,7 @@ fn push_cd(alloc: Global, text: &mut String, entry: &CdEntry) -> Result<(), Allo
 fn push_field(
     alloc: Global,
     text: &mut String,
-    field: InputField,
+    field: InField,
     name: &str,
 ) -> Result<(), AllocError> {
     let one = format!(in alloc; ", {field:?} {name}")?;
@@ -223,18 +244,18 @@ fn push_clauses(
 }
 
 /// The fields of an input CD, in the order of its area.
-const FIELDS: [InputField; 11] = [
-    InputField::Queue,
-    InputField::SubQueue1,
-    InputField::SubQueue2,
-    InputField::SubQueue3,
-    InputField::MessageDate,
-    InputField::MessageTime,
-    InputField::Source,
-    InputField::TextLength,
-    InputField::EndKey,
-    InputField::StatusKey,
-    InputField::MessageCount,
+const FIELDS: [InField; 11] = [
+    InField::Queue,
+    InField::Sub1,
+    InField::Sub2,
+    InField::Sub3,
+    InField::Date,
+    InField::Time,
+    InField::Source,
+    InField::Length,
+    InField::EndKey,
+    InField::Status,
+    InField::Count,
 ];
 
 /// The fields of an input CD by the list of its names.
@@ -252,21 +273,22 @@ fn push_output(
     clauses: &[OutputClause],
 ) -> Result<(), AllocError> {
     for clause in clauses {
-        let (field, told) = match clause {
-            OutputClause::DestinationCount { name, .. } => ("DestinationCount", &name.text),
-            OutputClause::TextLength { name, .. } => ("TextLength", &name.text),
-            OutputClause::StatusKey { name, .. } => ("StatusKey", &name.text),
-            OutputClause::Table { occurs, .. } => ("Table", &occurs.digits),
-            OutputClause::ErrorKey { name, .. } => ("ErrorKey", &name.text),
-            OutputClause::Destination { name, .. } => ("Destination", &name.text),
+        let one = match clause {
+            OutputClause::Field { field, name, .. } => {
+                let name = name.text.as_str();
+                format!(in alloc; ", {field:?} {name}")?
+            }
+            OutputClause::Table { occurs, .. } => {
+                let number = occurs.digits.as_str();
+                format!(in alloc; ", Table {number}")?
+            }
         };
-        let told = told.as_str();
-        let one = format!(in alloc; ", {field} {told}")?;
         text.push_str(one.as_str())?;
     }
     Ok(())
 }
 
 fn main(rt: HostRuntime) -> io::Result<()> {
-    answer_cases(&rt, &mut Sources { alloc: rt.alloc() })
+    let alloc = rt.alloc();
+    answer_cases(&rt, &mut Sources { rt: &rt, alloc })
 }

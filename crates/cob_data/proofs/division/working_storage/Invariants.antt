@@ -1,10 +1,10 @@
 use Rattle.std.proofs.Common.{◌≡◌, ◌≤◌, ◌-◌, drop, length}
-use Rattle.cob_data.specs.Entries.{parted, storage_items}
+use Rattle.cob_data.specs.Entries.{split_runs, storage_items}
 use Rattle.cob_data.proofs.division.working_storage.Given as goal
 
 abbrev pub invariant-runs : goal.invariant-runs
 invariant-runs l = record {
-  left : storage_items (parted (drop l.place l.entries)).1 ≡ storage_items (parted l.entries).1;
+  left : storage_items (split_runs (drop l.place l.entries)).1 ≡ storage_items (split_runs l.entries).1;
   within : l.place ≤ length l.entries;
 }
 

@@ -1,7 +1,7 @@
 use Rattle.std.proofs.Common.{◌≡◌, [], map, drop}
 use Rattle.std.specs.Prelude.{find, unwrap_or}
 use Rattle.cob_data.specs.Entries.{has}
-use Rattle.cob_data.proofs.cds.word_told.Given as goal
+use Rattle.cob_data.proofs.cds.first_word.Given as goal
 
 abbrev pub invariant-pairs : goal.invariant-pairs
 invariant-pairs g l =

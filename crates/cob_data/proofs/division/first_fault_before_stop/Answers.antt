@@ -1,5 +1,5 @@
 use Rattle.cob_data.proofs.Joined.{stopped}
-use Rattle.cob_data.proofs.division.first_fault_stopped.Goals as goal
+use Rattle.cob_data.proofs.division.first_fault_before_stop.Goals as goal
 
 pub returns : goal.returns
 returns c =

@@ -1,0 +1,8 @@
+       IDENTIFICATION DIVISION.
+       PROGRAM-ID. P.
+       DATA DIVISION.
+       WORKING-STORAGE SECTION.
+       01  A PIC XX(3)X.
+       01  B PIC 9(2)9.
+       PROCEDURE DIVISION.
+       MAIN.
