@@ -1,18 +1,9 @@
-<<<<<<< HEAD
-//! Cases of COBOL sources, which go through three passes: their tokens, their divisions up to the
-//! word PROCEDURE, and their Procedure Division. Each line of `stdin` is a source: `division` has
-//! it whole, `items` the lines of its Working-Storage Section from line 5, and `entries` those of
-//! its Communication Section. `names` makes as many items as its number says, and has the lines
-//! behind them. `stdout` has the first fault, or the items and CDs with where their characters are;
-//! `opening` is like `items`, and `stdout` has the characters with which the areas begin.
-=======
 //! Cases of COBOL sources, which go through three passes: their tokens, their divisions up to the word
 //! PROCEDURE, and their Procedure Division. Each line of `stdin` is a source: `division` names its file,
 //! `items` the lines of its Working-Storage Section from line 5, and `entries` those of its Communication
 //! Section. `names` makes as many items as its number says, and has the lines behind them. `stdout` has the
 //! first fault, or the items and CDs with where their characters are; `opening` is like `items`, and `stdout`
 //! has the characters with which the areas begin.
->>>>>>> d7fd395
 #![tactic(auto)]
 
 ghost use Rattle.std.specs.Prelude.{◌≤◌, IfOk, length};
