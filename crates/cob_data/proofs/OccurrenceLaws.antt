@@ -1,22 +1,20 @@
 -- The tables of a division without a fault have 1 to 8 destinations.
-use Rattle.std.proofs.Common.{◌≡◌, ◌<◌, ℕ, zero, suc, ◌+◌, ◌-◌, Bool, true, false, not, ◌&&◌, ◌||◌, List, [], ◌∷◌, ◌++◌, length, take, drop, map, filter, flat_map, codes, Option, Some, None, refl, sym, ap, ◌∙◌, arith, length-drop}
+use Rattle.std.proofs.Common.{◌≡◌, ℕ, zero, suc, ◌+◌, ◌-◌, Bool, true, false, not, ◌&&◌, ◌||◌, List, [], ◌∷◌, ◌++◌, length, take, filter, flat_map, codes, Option, Some, None, refl, sym, ap, ◌∙◌}
 use Rattle.std.specs.Prelude.{cond, if◌then◌else◌, nat_le}
 use Rattle.std.specs.List.{list_all}
 use Rattle.std.proofs.lemmas.List.Folds.{list_all-append}
 use Rattle.com_cd.specs.declared.output_area.TheConstants.{MAX_OCCURRENCES}
 use Rattle.com_cd.specs.declared.output_area.OutField.{OutField}
-use Rattle.cob_lex.specs.declared.fault.SourceFault.{SourceFault}
 use Rattle.cob_lex.specs.declared.fault.SourceKind.TheVariants as faults
 use Rattle.cob_lex.specs.declared.token.Token.{Token}
 use Rattle.cob_lex.specs.declared.token.TokenKind.TheVariants as tokens
 use Rattle.cob_forms.specs.Sorts.{is, of_kind, reserved}
-use Rattle.cob_forms.specs.Faults.{earlier, first, is_before}
-use Rattle.cob_forms.specs.Forms.{ends}
+use Rattle.cob_forms.specs.Faults.{first}
 use Rattle.cob_data.specs.declared.tree.DataDivision.{DataDivision}
 use Rattle.cob_data.specs.Clauses.{all_clauses, body_of, clauses_of, ends_clause, is_input, lists_names, number_in, output_field_of}
 use Rattle.cob_data.specs.Divisions.{IsDivisionOf, body_by, cd_named, cds_from, output_clause, output_clause_by, output_clauses, storage_records}
-use Rattle.cob_data.specs.Entries.{Run, behind, cd_runs, described, ends_entry, entries_of, first_token, put_in_runs, is_cd, is_item, last_token, split_runs, pieces, put, runs_of, second_token, word_flags, wants_word}
-use Rattle.cob_data.specs.Faults.{Limits, at_any, bad_tables, data_fault, data_faults, faults_by, limits, other_faults}
+use Rattle.cob_data.specs.Entries.{Run, behind, cd_runs, described, first_token, put_in_runs, is_cd, is_item, last_token, split_runs, pieces, put, runs_of, second_token, word_flags}
+use Rattle.cob_data.specs.Faults.{Limits, at_any, bad_tables, data_fault, limits, other_faults}
 use Rattle.cob_data.specs.Numerals.{numeral}
 use Rattle.cob_data.specs.Occurrences.{HasOccurrences, is_body_right, is_table_right}
 use Rattle.cob_data.proofs.Firsts.{cd_tokens}

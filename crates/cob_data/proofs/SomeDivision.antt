@@ -1,5 +1,5 @@
 -- Tokens without a fault have a division.
-use Rattle.std.proofs.Common.{◌≡◌, ◌≤◌, ◌<◌, ℕ, suc, ◌+◌, ◌-◌, List, [], ◌∷◌, length, take, drop, get_or, Option, Some, None, codes, refl, sym, ap, ◌∙◌, arith}
+use Rattle.std.proofs.Common.{◌≡◌, suc, ◌+◌, ◌-◌, List, [], ◌∷◌, length, take, drop, get_or, None, codes, refl, ap, ◌∙◌, arith}
 use Rattle.std.specs.Prelude.{option_map}
 use Rattle.std.proofs.lemmas.Option.{slice_get-get_or}
 use Rattle.cob_lex.specs.declared.token.Token.{Token}
@@ -7,11 +7,10 @@ use Rattle.cob_forms.specs.Forms.{Part, Reading, ends, next, reading, wanted}
 use Rattle.cob_forms.specs.Sorts.{is, reserved}
 use Rattle.cob_forms.specs.Written.{name_of}
 use Rattle.cob_data.specs.declared.tree.DataDivision.{DataDivision}
-use Rattle.cob_data.specs.Divisions.{IsDivisionOf, communication_of, word_behind, working_storage_of}
+use Rattle.cob_data.specs.Divisions.{communication_of, word_behind, working_storage_of}
 use Rattle.cob_data.specs.Faults.{data_fault, data_faults, faults_by, limits, with_procedure}
 use Rattle.cob_data.specs.HasDivision.{HasDivision}
-use Rattle.cob_data.specs.Forms.{Form, alternatives_of, before_procedure, data_division}
-use Rattle.cob_data.specs.Forms as all
+use Rattle.cob_data.specs.Forms.{Form, alternatives_of, data_division}
 use Rattle.cob_data.proofs.HeaderLaws.{has_name, step_by}
 use Rattle.cob_data.proofs.NoFaults.{behind_none, no_fault, some_fault}
 use Rattle.cob_data.proofs.ReadParts.{end_of_reading}

@@ -1,9 +1,16 @@
-//! Cases of COBOL sources, which go through three passes: their tokens, their divisions up to the word
-//! PROCEDURE, and their Procedure Division. Each line of `stdin` is a source: `division` names its file,
-//! `items` the lines of its Working-Storage Section from line 5, and `entries` those of its Communication
-//! Section. `names` makes as many items as its number says, and has the lines behind them. `stdout` has the
-//! first fault, or the items and CDs with where their characters are; `opening` is like `items`, and `stdout`
-//! has the characters with which the areas begin.
+//! Cases of COBOL sources. Each line of `stdin` gives a source, which is read in three passes: its
+//! tokens, its divisions up to the word PROCEDURE, and its Procedure Division.
+//!
+//! - `division "echo.cob"` gives the file of that name in `data/`.
+//! - `items "       01  A PIC X."` gives a program with these lines, from line 5 on, as its
+//!   Working-Storage Section, and `entries` one with its lines as the Communication Section.
+//! - `names 2000 "       01  Z PIC X."` is like `items`, with 2000 items before these lines.
+//! - `opening` is like `items`, but is answered with the characters with which the areas begin.
+//!
+//! `stdout` has the answers. A source with a fault is answered with the first one, as `WrongKind
+//! 5:8`: its kind, its line and its column. Any other is answered with the program's name, the
+//! number of tokens before PROCEDURE, and the items and CDs. `01 A 0:0+5 Group` is an item in area
+//! 0, with 5 characters from place 0; `CD C 1` is a CD with area 1.
 #![tactic(auto)]
 
 ghost use Rattle.std.specs.Prelude.{◌≤◌, IfOk, length};
