@@ -1,20 +1,18 @@
 -- The parts of statements are as their spelling and the freedom from faults say.
-use Rattle.std.proofs.Common.{◌≡◌, codes, ◌⊎◌, ◌≤◌, ◌<◌, inl, inr, ℕ, Bool, true, false, not, ◌&&◌, ◌||◌, nat_le, List, [], ◌∷◌, ◌++◌, length, Option, Some, None, refl, sym, ap, subst, ◌∙◌, arith, bytes_eq}
-use Rattle.std.specs.List.{AllByRecursion, flat_map, list_any}
+use Rattle.std.proofs.Common.{◌≡◌, codes, ◌⊎◌, ◌≤◌, inl, inr, ℕ, Bool, true, false, ◌&&◌, nat_le, List, [], ◌∷◌, Option, Some, None, refl, sym, ap, subst, ◌∙◌, arith}
+use Rattle.std.specs.List.{AllByRecursion}
 use Rattle.std.specs.Prelude.{IfSome}
 use Rattle.std.proofs.lemmas.Bool.{and_parts}
 use Rattle.std.proofs.lemmas.Bool.Decides.{nat_tests}
 use Rattle.com_text.specs.Digits.{number}
 use Rattle.cob_lex.specs.declared.fault.SourceFault.{SourceFault}
 use Rattle.cob_lex.specs.declared.token.Token.{Token}
-use Rattle.cob_lex.specs.declared.token.TokenKind.TheVariants as tokens
 use Rattle.cob_forms.specs.declared.written.Literal.{Literal}
 use Rattle.cob_forms.specs.declared.written.Name.{Name}
 use Rattle.cob_forms.specs.declared.written.Number.{Number}
 use Rattle.cob_forms.specs.declared.written.Position.{Position}
-use Rattle.cob_forms.specs.Sorts.{Sort, is, name, of_kind}
-use Rattle.cob_forms.specs.Spelling.{Spelling, ◌⊙◌, a, made, placed, unless, written, perhaps, either, all_of, some_of, maybe_of, IsName, IsNumber, IsLiteral}
-use Rattle.cob_forms.specs.Written.{literal_of, name_of, number_of, position_of}
+use Rattle.cob_forms.specs.Sorts.{Sort}
+use Rattle.cob_forms.specs.Spelling.{written, maybe_of, IsNumber, IsLiteral}
 use Rattle.cob_data.specs.declared.tree.ItemPlace.{ItemPlace}
 use Rattle.cob_data.specs.declared.tree.ItemSort.{ItemSort}
 use Rattle.cob_data.specs.declared.tree.ItemSort.TheVariants.{Alphanumeric, Numeric, Group}
@@ -26,10 +24,10 @@ use Rattle.cob_proc.specs.declared.tree.Operand.{Operand}
 use Rattle.cob_proc.specs.declared.tree.Operand.TheVariants as operands
 use Rattle.cob_proc.specs.declared.tree.Subscript.{Subscript}
 use Rattle.cob_proc.specs.declared.tree.Subscript.TheVariants as subscripts
-use Rattle.cob_proc.specs.Spelled.{IsAddend, IsIdentifier, IsOperand, IsSubscript, begins_form, one_of}
-use Rattle.cob_meaning.specs.Checked.{IsCheckedAddend, IsCheckedIdentifier, IsCheckedItem, IsCheckedNumber, IsCheckedOperand, IsCheckedSubscript, IsInputCd, IsNumeral, IsOutputCd, IsQuotation, IsSubscripted}
+use Rattle.cob_proc.specs.Spelled.{IsAddend, IsIdentifier, IsOperand, IsSubscript, one_of}
+use Rattle.cob_meaning.specs.Checked.{IsCheckedAddend, IsCheckedIdentifier, IsCheckedItem, IsCheckedNumber, IsCheckedOperand, IsInputCd, IsNumeral, IsOutputCd, IsQuotation, IsSubscripted}
 use Rattle.cob_meaning.specs.Layouts.{Layout, referent}
-use Rattle.cob_meaning.specs.Names.{ItemRule, addend_faults, any_item, data_faults, data_faults_by, fault_at, fault_unless, identifier_faults, input_faults, input_faults_by, is_numeric, is_single, numeric_item, operand_faults, output_faults, output_faults_by, subscripted_faults}
+use Rattle.cob_meaning.specs.Names.{ItemRule, addend_faults, any_item, data_faults, data_faults_by, identifier_faults, input_faults, input_faults_by, is_numeric, is_single, numeric_item, operand_faults, output_faults, output_faults_by, subscripted_faults}
 use Rattle.cob_meaning.proofs.SoundTokens.{IsSoundToken, a_numeral, a_quotation}
 use Rattle.cob_meaning.proofs.WellFormed.{both_empty, holds_where_wanted, no_fault}
 

@@ -1,17 +1,14 @@
 -- Statements are as their spelling and the freedom from faults say, and so is the whole text of a program.
-use Rattle.std.proofs.Common.{◌≡◌, ◌⊎◌, codes, ◌≤◌, ◌<◌, inl, inr, ℕ, zero, suc, ◌+◌, Bool, true, false, not, ◌&&◌, ◌||◌, nat_le, List, [], ◌∷◌, ◌++◌, length, drop, cond, Option, Some, None, Ok, refl, sym, ap, subst, ◌∙◌, arith, bytes_eq}
-use Rattle.std.specs.List.{AllByRecursion, flat_map, list_any, position_or_len}
+use Rattle.std.proofs.Common.{◌≡◌, ◌⊎◌, codes, ◌≤◌, ◌<◌, inl, inr, ℕ, suc, ◌+◌, Bool, true, false, not, ◌&&◌, ◌||◌, nat_le, List, [], ◌∷◌, ◌++◌, length, drop, cond, Option, Some, None, arith, bytes_eq}
+use Rattle.std.specs.List.{AllByRecursion, flat_map, list_any}
 use Rattle.std.specs.Prelude.{IfSome}
 use Rattle.std.proofs.lemmas.Bool.{and_parts}
 use Rattle.std.proofs.lemmas.Bool.Decides.{nat_tests}
 use Rattle.com_text.specs.Digits.{number}
 use Rattle.cob_lex.specs.declared.token.Token.{Token}
-use Rattle.cob_lex.specs.Lexing.{tokens_of}
 use Rattle.cob_forms.specs.declared.written.Name.{Name}
-use Rattle.cob_forms.specs.Faults.{first}
 use Rattle.cob_forms.specs.Sorts.{Sort, reserved}
-use Rattle.cob_forms.specs.Spelling.{Spelling, ◌⊙◌, a, either, perhaps, all_of, some_of, maybe_of, unless}
-use Rattle.cob_data.specs.declared.tree.ItemPlace.{ItemPlace}
+use Rattle.cob_forms.specs.Spelling.{◌⊙◌, a, all_of, some_of, maybe_of}
 use Rattle.cob_proc.specs.declared.tree.Addend.TheVariants as addends
 use Rattle.cob_proc.specs.declared.tree.Advancing.{Advancing}
 use Rattle.cob_proc.specs.declared.tree.Condition.{Condition}
@@ -31,17 +28,17 @@ use Rattle.cob_proc.specs.declared.tree.Repetition.{Repetition}
 use Rattle.cob_proc.specs.declared.tree.Repetition.TheVariants as repetitions
 use Rattle.cob_proc.specs.declared.tree.Simple.{Simple}
 use Rattle.cob_proc.specs.declared.tree.Simple.TheVariants as simples
-use Rattle.cob_proc.specs.Spelled.{AreFurther, AreInner, AreStatements, IsAdvancing, IsCondition, IsElse, IsEnding, IsIndicator, IsInner, IsKey, IsLines, IsNoData, IsParagraph, IsPlain, IsProcedure, IsReceive, IsRelation, IsRepetition, IsSent, IsSentence, IsSimple, IsStatement, IsThrough, are_joined, are_parts, begins_form, is_alone, is_denied, is_keyed, line_or_lines, IsIdentifier}
+use Rattle.cob_proc.specs.Spelled.{AreFurther, AreInner, AreStatements, IsAdvancing, IsCondition, IsElse, IsEnding, IsIndicator, IsInner, IsKey, IsLines, IsNoData, IsParagraph, IsPlain, IsProcedure, IsReceive, IsRelation, IsRepetition, IsSent, IsSentence, IsSimple, IsStatement, IsThrough, are_joined, are_parts, is_alone, is_denied, is_keyed, line_or_lines, IsIdentifier}
 use Rattle.cob_proc.specs.Trees.{Plain, moves, adds, subtracts, performs, goes, exits, stops, sends, switches_input, switches_output, accepts, Tree, plain, branches, receives, Block, none, lead, ParagraphTree}
-use Rattle.cob_meaning.specs.Checked.{AreChecked, AreCheckedLines, AreCheckedParagraphs, IsCheckedCondition, IsCheckedEnding, IsCheckedIdentifier, IsCheckedIndicator, IsCheckedItem, IsCheckedKey, IsCheckedPlain, IsCheckedRepetition, IsCheckedSimple, IsCheckedStatement, IsCheckedText, IsInputCd, IsParagraphName}
+use Rattle.cob_meaning.specs.Checked.{AreChecked, AreCheckedLines, AreCheckedParagraphs, IsCheckedCondition, IsCheckedEnding, IsCheckedIdentifier, IsCheckedIndicator, IsCheckedKey, IsCheckedPlain, IsCheckedRepetition, IsCheckedSimple, IsCheckedStatement, IsCheckedText, IsInputCd, IsParagraphName}
 use Rattle.cob_meaning.specs.Layouts.{Layout}
 use Rattle.cob_meaning.specs.Meaning.{Program, paragraph_number}
-use Rattle.cob_meaning.specs.Names.{advancing_faults, all_faults, any_item, condition_faults, ending_faults, identifier_faults, indicator_faults, input_faults, item_of_length, key_faults, lines_faults, names_faults, operand_faults, output_faults, paragraph_faults, plain_faults, repetition_faults, sentences_faults, simple_faults, some_identifier_faults, some_paragraph_faults, spaces_faults, statement_faults, is_number_operand, names_number, addend_faults, numeric_item, fault_unless}
+use Rattle.cob_meaning.specs.Names.{advancing_faults, all_faults, any_item, condition_faults, ending_faults, identifier_faults, indicator_faults, input_faults, item_of_length, key_faults, lines_faults, names_faults, operand_faults, output_faults, paragraph_faults, plain_faults, repetition_faults, sentences_faults, simple_faults, some_identifier_faults, some_paragraph_faults, spaces_faults, statement_faults, is_number_operand, names_number, addend_faults, numeric_item}
 use Rattle.cob_meaning.specs.Sources.{IsProgramOf}
 use Rattle.cob_meaning.proofs.CheckedParts.{Asks, Sound, addend, Takes, TakesNone, after_a, after_made, after_perhaps, after_two, after_unless, after_written, any, identifier, input_named, numeral, numeric, operand, output_named, quotation}
 use Rattle.cob_meaning.proofs.FirstFaults.{no_faults}
 use Rattle.cob_meaning.proofs.SoundTokens.{drop_sound, tokens_sound}
-use Rattle.cob_meaning.proofs.WellFormed.{both_empty, holds_where_wanted, no_fault}
+use Rattle.cob_meaning.proofs.WellFormed.{both_empty, holds_where_wanted}
 
 -- a length within bounds
 within : (least most n : ℕ) → nat_le least n && nat_le n most ≡ true → (least ≤ n) × (n ≤ most)

@@ -11,7 +11,7 @@ use Rattle.cob_proc.specs.Spelled.{IsProcedure}
 use Rattle.cob_proc.proofs.DivisionOnly.{one_tree}
 use Rattle.cob_meaning.specs.Meaning.{Program, meaning}
 use Rattle.cob_meaning.specs.Names.{names_faults}
-use Rattle.cob_meaning.specs.Ranges.{IsFirstOf, IsRangesFault}
+use Rattle.cob_meaning.specs.Ranges.{IsRangesFault}
 use Rattle.cob_meaning.specs.Sources.{HasNoTreesFault, IsProgramOf, IsReadAs, IsSourceFaultOf, IsTreesFaultOf, Spells, layout_of, of_length, of_text, of_trees, text_fault, text_fault_by}
 use Rattle.cob_meaning.proofs.FirstFaults.{one_first}
 

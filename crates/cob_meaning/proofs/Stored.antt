@@ -25,7 +25,7 @@ use Rattle.cob_data.specs.declared.tree.ItemSort.TheVariants.{Alphanumeric, Nume
 use Rattle.cob_data.specs.Layout.{Declared, Referent, data_at, input_cd, output_cd}
 use Rattle.cob_meaning.specs.Layouts.{◌>>=◌, Layout, occurrence, referent, step}
 use Rattle.cob_meaning.specs.Moves.{Content, a_number, a_text, a_group, all_spaces, all_zeros, addend_number, combined, content_at, content_of, filled, from_left, from_right, item_at, item_by, move, moved, subscript_number, subscripted_item}
-use Rattle.cob_meaning.specs.Sound.{IsItemIn, IsReferentIn, IsSound, extent}
+use Rattle.cob_meaning.specs.Sound.{IsItemIn, IsReferentIn, IsSound}
 use Rattle.cob_meaning.specs.Storage.{Storage, area_in, held_by, number_held, number_in, with_area, with_prefix}
 
 -- each area holds a text, as long as at the beginning

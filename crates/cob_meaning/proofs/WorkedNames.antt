@@ -1,13 +1,13 @@
 -- Names and ranges of what control never reaches, and one name for two things, worked out by hand.
-use Rattle.std.proofs.Common.{inl, ◌≡◌, [], ◌∷◌, Some, None, refl, codes}
+use Rattle.std.proofs.Common.{inl, [], ◌∷◌, refl, codes}
 use Rattle.cob_lex.specs.declared.fault.SourceKind.TheVariants as faults
 use Rattle.cob_forms.specs.Faults.{fault}
-use Rattle.cob_meaning.specs.Sources.{HasNoTreesFault, IsTreesFaultOf}
-use Rattle.cob_meaning.proofs.RangeFaults.{first_fault, free_of_faults, no_fault}
+use Rattle.cob_meaning.specs.Sources.{HasNoTreesFault}
+use Rattle.cob_meaning.proofs.RangeFaults.{first_fault, free_of_faults}
 use Rattle.cob_meaning.proofs.Placed.{item_at}
 use Rattle.cob_meaning.proofs.SmallPrograms.{program}
 use Rattle.cob_meaning.proofs.Trees.{paragraph, exit_of, stop_of}
-use Rattle.cob_meaning.proofs.WorkedPasses.{Finds, HasNoRangesFault, HasRangesFault, goes, moves, of, performs, performs_thru}
+use Rattle.cob_meaning.proofs.WorkedPasses.{Finds, HasRangesFault, goes, moves, of, performs, performs_thru}
 
 -- a PERFORM behind STOP RUN counts like any other
 perform_behind_stop : HasRangesFault (paragraph (codes "A1") (stop_of ∷ performs 4 20 (codes "A1") ∷ []) ∷ []) (fault 4 20 faults.PerformsItself)

@@ -1,5 +1,5 @@
 -- Sources in which a name stands for two things or for none, worked out by hand.
-use Rattle.std.proofs.Common.{◌≡◌, ℕ, List, [], ◌∷◌, drop, take, map, None, Ok, refl, sym, subst, codes, arith, inl, inr}
+use Rattle.std.proofs.Common.{◌≡◌, ℕ, List, [], ◌∷◌, drop, take, None, Ok, refl, codes, arith, inl}
 use Rattle.cob_lex.specs.declared.fault.SourceKind.TheVariants as faults
 use Rattle.cob_lex.specs.declared.token.Token.{Token}
 use Rattle.cob_lex.specs.Fronts.{front_of}
@@ -14,12 +14,10 @@ use Rattle.cob_data.specs.Divisions.{IsDivisionOf, communication_of, working_sto
 use Rattle.cob_proc.specs.PartReaders as parts
 use Rattle.cob_proc.specs.StatementReaders as statement
 use Rattle.cob_proc.specs.DivisionReaders as division
-use Rattle.cob_proc.specs.Spelled.{IsProcedure}
-use Rattle.cob_proc.specs.Trees.{Tree, ParagraphTree}
+use Rattle.cob_proc.specs.Trees.{Tree}
 use Rattle.cob_proc.proofs.DivisionSpelled.{procedure_spelled}
 use Rattle.cob_proc.proofs.WorkedSources.{tokens_in}
-use Rattle.cob_data.specs.declared.tree.ItemSort.TheVariants.{Alphanumeric, Numeric, Group}
-use Rattle.cob_data.specs.Layout.{Referent, input_cd, output_cd}
+use Rattle.cob_data.specs.declared.tree.ItemSort.TheVariants.{Alphanumeric}
 use Rattle.cob_meaning.specs.Meaning.{Program}
 use Rattle.cob_meaning.specs.Sources.{IsProgramOf, IsSourceFaultOf, Spells, of_text, of_trees}
 use Rattle.cob_meaning.proofs.RangeFaults.{free_of_faults}

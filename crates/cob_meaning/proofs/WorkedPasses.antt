@@ -1,8 +1,8 @@
 -- The passes over trees, worked out by hand: which fault a program has.
-use Rattle.std.proofs.Common.{◌≡◌, ℕ, true, false, List, [], ◌∷◌, Option, Some, None, inl, refl, codes}
+use Rattle.std.proofs.Common.{ℕ, true, false, List, [], ◌∷◌, Some, None, inl, refl, codes}
 use Rattle.cob_lex.specs.declared.fault.SourceFault.{SourceFault}
 use Rattle.cob_lex.specs.declared.fault.SourceKind.TheVariants as faults
-use Rattle.cob_forms.specs.Faults.{fault, first}
+use Rattle.cob_forms.specs.Faults.{fault}
 use Rattle.cob_proc.specs.declared.tree.Addend.TheVariants as addends
 use Rattle.cob_proc.specs.declared.tree.Identifier.{Identifier}
 use Rattle.cob_proc.specs.declared.tree.Indicator.TheVariants as indicators

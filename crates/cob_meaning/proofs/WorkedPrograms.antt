@@ -20,7 +20,7 @@ use Rattle.cob_proc.specs.declared.tree.Operand.TheVariants as operands
 use Rattle.cob_proc.specs.declared.tree.Relation.TheVariants as relations
 use Rattle.cob_proc.specs.Trees.{Tree}
 use Rattle.cob_data.specs.declared.tree.ItemSort.TheVariants.{Alphanumeric, Numeric, Group}
-use Rattle.cob_data.specs.Layout.{Referent, input_cd, output_cd}
+use Rattle.cob_data.specs.Layout.{input_cd, output_cd}
 use Rattle.cob_meaning.specs.Meaning.{Stopped, Wants, Program, meaning, unit_limits}
 use Rattle.cob_meaning.proofs.Placed.{at, name_at, item_at, digits_at, of_item, of_literal, of_number, paragraph_at}
 use Rattle.cob_meaning.proofs.Trees.{alone, add_of, exit_of, go_of, if_of, move_of, perform_of, receive_of, send_of, stop_of, an_item}

@@ -1,5 +1,5 @@
 -- Whole sources: the programs that they are, and the faults that they have.
-use Rattle.std.proofs.Common.{◌≡◌, ℕ, true, List, [], ◌∷◌, ◌++◌, drop, take, map, Option, Some, None, refl, sym, subst, codes, arith, inl, inr}
+use Rattle.std.proofs.Common.{◌≡◌, ℕ, true, List, [], ◌∷◌, ◌++◌, drop, take, Option, Some, None, refl, codes, arith, inl, inr}
 use Rattle.cob_lex.specs.declared.fault.SourceKind.TheVariants as faults
 use Rattle.cob_lex.specs.declared.token.Token.{Token}
 use Rattle.cob_lex.specs.Fronts.{front_of}
@@ -18,9 +18,8 @@ use Rattle.cob_data.specs.Clauses.{input_field_of, output_field_of}
 use Rattle.cob_data.specs.Divisions.{IsDivisionOf, communication_of, working_storage_of}
 use Rattle.cob_proc.specs.declared.tree.Repetition.TheVariants as repetitions
 use Rattle.cob_proc.specs.Spelled.{IsProcedure}
-use Rattle.cob_proc.specs.Trees.{ParagraphTree}
 use Rattle.cob_meaning.specs.Meaning.{Program}
-use Rattle.cob_meaning.specs.Sources.{IsProgramOf, IsSourceFaultOf, Spells, of_text, of_trees, tokens_fault}
+use Rattle.cob_meaning.specs.Sources.{IsProgramOf, IsSourceFaultOf, Spells, of_trees, tokens_fault}
 use Rattle.cob_meaning.proofs.Trees.{go_of, perform_of, stop_of}
 use Rattle.cob_meaning.proofs.Placed.{name_at, paragraph_at}
 use Rattle.cob_meaning.proofs.WorkedPrograms.{echo as echo_program, orders as orders_program}

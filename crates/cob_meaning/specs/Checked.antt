@@ -14,7 +14,6 @@ use Rattle.cob_data.specs.declared.tree.ItemSort.TheVariants.{Numeric}
 use Rattle.cob_data.specs.Layout.{data_at, input_cd, output_cd}
 use Rattle.cob_proc.specs.declared.tree.Addend.{Addend}
 use Rattle.cob_proc.specs.declared.tree.Addend.TheVariants as addends
-use Rattle.cob_proc.specs.declared.tree.Advancing.{Advancing}
 use Rattle.cob_proc.specs.declared.tree.Condition.{Condition}
 use Rattle.cob_proc.specs.declared.tree.Ending.{Ending}
 use Rattle.cob_proc.specs.declared.tree.Identifier.{Identifier}
