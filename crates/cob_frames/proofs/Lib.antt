@@ -1,0 +1,4 @@
+pub mod Bounds
+pub mod Equations
+pub mod Stands
+pub mod Steps
