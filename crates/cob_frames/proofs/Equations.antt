@@ -15,7 +15,7 @@ use Rattle.cob_meaning.specs.Storage.{Storage}
 use Rattle.cob_meaning.specs.Conditions.{holds}
 use Rattle.cob_meaning.specs.Meaning.{Run, Outcome, Normal, Jump, Stops, Needs, then_do, begun_with, begun, choice, does, do_all, times, until, in_order, paragraphs_do, from_to, range, Program, meaning, meaning_of, beginning, unit_limits}
 use Rattle.cob_frames.specs.Frames.{Frame, rest_of, sentences_left, paragraphs_left, turns_left, turns_until, range_does, frame_does, frames_do, gone_to, whole_text, unit_bound, program_does}
-use Rattle.cob_frames.proofs.Bounds.{range_more, until_more}
+use Rattle.cob_meaning.proofs.Bounds.{range_more, until_more}
 
 -- an element at each place
 pub there : {A : Type 0} (xs : List A) (k : ℕ) → k < length xs → (x : A) × (slice_get xs k ≡ Some x)
