@@ -1,0 +1,3 @@
+pub mod Equations
+pub mod Stands
+pub mod Steps
