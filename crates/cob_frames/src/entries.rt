@@ -11,7 +11,7 @@ ghost use Rattle.cob_meaning.specs.Meaning.{Program, Stopped, Wants, meaning, un
 ghost use Rattle.cob_meaning.specs.Follows.{Follows, SoFar, is_verb, is_waiting, started, stopped, waits};
 ghost use Rattle.cob_frames.specs.Entries.{AreOwn, answered_entry};
 
-use cob_meaning::{calls_are_within_limits, each_call_takes_a_reply, more_replies_go_on};
+use cob_meaning::laws::{calls_are_within_limits, each_call_takes_a_reply, more_replies_go_on};
 
 /// START is the first entry of a unit.
 pub fn starts_are_own()
