@@ -1,3 +1,4 @@
-pub mod Equations
-pub mod Stands
-pub mod Steps
+pub mod EntrySteps
+pub mod FrameSteps
+pub mod UnitSteps
+pub mod WorkedFrames

@@ -1,3 +1,3 @@
 pub mod Frames
-pub mod Standing
+pub mod Units
 pub mod Entries

@@ -1,7 +1,11 @@
-//! Laws of what is left to do. A function here does nothing; its contract is the law.
-ghost use Rattle.std.specs.Prelude.{◌≡◌, ◌<◌, ◌≤◌, ◌+◌, ℕ, Bool, List, [], ◌∷◌, ◌++◌, length, Option, Some, slice_get};
+//! Laws of frames, of units and of their entries. A function here does nothing; its contract is the
+//! law.
+ghost use Rattle.std.specs.Prelude.{◌≡◌, ◌<◌, ℕ, Bool, List, [], ◌∷◌, ◌++◌, length, Option, true, false};
 ghost use Rattle.com_events.specs.declared.call.Call.{Call as CallOf};
+ghost use Rattle.com_events.specs.declared.call.Party.{Party as PartyOf};
 ghost use Rattle.com_events.specs.declared.call.StopReason.{StopReason as ReasonOf};
+ghost use Rattle.com_events.specs.declared.call.StopReason.TheVariants as reason;
+ghost use Rattle.com_events.specs.declared.entry.Entry.{Entry as EntryOf};
 ghost use Rattle.com_events.specs.declared.reply.Reply.{Reply as ReplyOf};
 ghost use Rattle.cob_proc.specs.Trees.{Block, ParagraphTree};
 ghost use Rattle.cob_meaning.specs.Layouts.{Layout};
@@ -27,17 +31,22 @@ ghost use Rattle.cob_meaning.specs.Meaning.{
   unit_limits,
   until,
 };
-ghost use Rattle.cob_frames.specs.Frames.{Frame, frames_do, gone_to, program_does, whole_text};
-ghost use Rattle.cob_frames.specs.Standing.{
+ghost use Rattle.cob_meaning.specs.Follows.{Follows, SoFar, is_verb, is_waiting, started, stopped, waits};
+ghost use Rattle.cob_frames.specs.Frames.{Frame, frames_after_go, frames_do, program_does, whole_text};
+ghost use Rattle.cob_frames.specs.Units.{
   HasStopped,
   Progress,
   Runs,
   Waits,
-  begun_with_names,
-  with_answer,
+  opening_progress,
+  progress_after_reply,
 };
+ghost use Rattle.cob_frames.specs.Entries.{AreOwnEntries, answered_entry};
 
-/// A range goes on from paragraph to paragraph, by the same bound as its parts.
+use cob_meaning::laws::{calls_are_within_limits, each_call_takes_a_reply, more_replies_go_on};
+
+/// A range does its paragraphs one after another. Its parts have the bound of the whole, if the
+/// bound exceeds the statements and turns that may still be begun.
 pub fn ranges_go_on()
     ensures { (bound : ℕ) (layout : Layout) (text : List ParagraphTree) (begin last : ℕ)
         (run : Run) → run.left < bound → range bound layout text begin last run ≡
@@ -45,7 +54,8 @@ pub fn ranges_go_on()
         paragraph.sentences) (λ to. range bound layout text to last) (from_to text begin last) run }
 {}
 
-/// An UNTIL tests before each turn, by the same bound as the turns that follow.
+/// An UNTIL tests its condition, and begins a turn if it does not hold. The turns after that one
+/// have the bound of the whole, if the bound exceeds what may still be begun.
 pub fn untils_go_on()
     ensures { (bound : ℕ) (layout : Layout) (text : List ParagraphTree)
         (test : Storage → Option Bool) (first last : ℕ) (run : Run) → run.left < bound →
@@ -61,21 +71,22 @@ pub fn whole_text_is_the_program()
         (beginning unit_limits program.layout names replies)) }
 {}
 
-/// A GO drops the frames down to the range that runs, and goes on there at its paragraph.
+/// A GO drops all frames before the range that runs, which goes on at the paragraph of the GO.
 pub fn gos_stay_in_their_range()
     ensures { (bound : ℕ) (layout : Layout) (text : List ParagraphTree) (frames : List Frame)
         (to : ℕ) (run : Run) → run.left < bound →
         meaning_of (frames_do bound layout text frames (Jump to run)) ≡
-        meaning_of (frames_do bound layout text (gone_to to frames) (Normal run)) }
+        meaning_of (frames_do bound layout text (frames_after_go to frames) (Normal run)) }
 {}
 
-/// A unit that is begun stands for its program and its names, before any reply.
+/// A unit that has just begun stands for its program and names, with no reply.
 pub fn units_begin()
     ensures { (program : Program) (names : Option (List ℕ)) →
-        Runs program names [] (begun_with_names program names) }
+        Runs program names [] (opening_progress program names) }
 {}
 
-/// A unit that waits for a reply waits with the call that its program wants.
+/// A unit that waits for a reply has made the calls that its program makes, and waits with the call
+/// that its program wants.
 pub fn units_want_calls()
     ensures { (program : Program) (names : Option (List ℕ)) (replies : List ReplyOf)
         (request : Request) (no_data : Block) (progress : Progress) →
@@ -83,18 +94,90 @@ pub fn units_want_calls()
         record { calls = progress.calls; ending = Wants request.call } }
 {}
 
-/// A unit that is given a reply stands for the replies before, followed by this one.
+/// A unit that gets the reply to its verb runs, and stands for one reply more.
 pub fn units_take_replies()
     ensures { (program : Program) (names : Option (List ℕ)) (replies : List ReplyOf)
         (request : Request) (no_data : Block) (progress : Progress) (reply : ReplyOf) →
         Waits program names replies request no_data progress → Runs program names
-        (replies ++ reply ∷ []) (with_answer request no_data reply progress) }
+        (replies ++ reply ∷ []) (progress_after_reply request no_data reply progress) }
 {}
 
-/// A unit that has stopped stopped as its program does.
+/// A unit that has stopped has made the calls of its program, and stopped for the program's reason.
 pub fn units_stop()
     ensures { (program : Program) (names : Option (List ℕ)) (replies : List ReplyOf)
         (reason : ReasonOf) (calls : List CallOf) →
         HasStopped program names replies reason calls → meaning program names replies ≡
         record { calls = calls; ending = Stopped reason } }
+{}
+
+/// If a program wants a verb, fewer verbs were answered than a unit may have answered.
+pub fn wants_leave_room()
+    ensures { (program : Program) (names : Option (List ℕ)) (replies : List ReplyOf)
+        (call : CallOf) → (meaning program names replies).ending ≡ Wants call →
+        length (meaning program names replies).calls < unit_limits.verbs }
+{
+    more_replies_go_on();
+    each_call_takes_a_reply();
+    calls_are_within_limits();
+}
+
+/// START is the first entry of a unit.
+pub fn starts_are_own_entries()
+    ensures { (party : PartyOf) (program : Program) (names : Option (List ℕ)) →
+        AreOwnEntries party program names [] (started party names ∷ []) }
+{
+    each_call_takes_a_reply();
+}
+
+/// The verb that the program wants may wait.
+pub fn waits_are_own_entries()
+    ensures { (party : PartyOf) (program : Program) (names : Option (List ℕ))
+        (replies : List ReplyOf) (entries : List EntryOf) (call : CallOf) →
+        AreOwnEntries party program names replies entries → is_verb call ≡ true →
+        (meaning program names replies).ending ≡ Wants call →
+        AreOwnEntries party program names replies (entries ++ waits party call ∷ []) }
+{}
+
+/// The verb that the program wants may be answered. The unit then has one reply more.
+pub fn answers_are_own_entries()
+    ensures { (party : PartyOf) (program : Program) (names : Option (List ℕ))
+        (replies : List ReplyOf) (entries : List EntryOf) (call : CallOf) (reply : ReplyOf) →
+        AreOwnEntries party program names replies entries → is_verb call ≡ true →
+        is_waiting reply ≡ false → (meaning program names replies).ending ≡ Wants call →
+        AreOwnEntries party program names (replies ++ reply ∷ [])
+        (entries ++ answered_entry party call reply ∷ []) }
+{
+    more_replies_go_on();
+    each_call_takes_a_reply();
+}
+
+/// The entries of a unit that has not stopped are those of its program so far.
+pub fn own_entries_are_so_far()
+    ensures { (party : PartyOf) (program : Program) (names : Option (List ℕ))
+        (replies : List ReplyOf) (entries : List EntryOf) →
+        AreOwnEntries party program names replies entries → SoFar party program entries }
+{}
+
+/// If the program stops, STOP with its reason ends the unit's entries.
+pub fn stops_follow()
+    ensures { (party : PartyOf) (program : Program) (names : Option (List ℕ))
+        (replies : List ReplyOf) (entries : List EntryOf) (why : ReasonOf) →
+        AreOwnEntries party program names replies entries →
+        (meaning program names replies).ending ≡ Stopped why →
+        Follows party program (entries ++ stopped party why ∷ []) }
+{}
+
+/// STOP IDLE may end the entries of a unit that waits.
+pub fn idle_stops_follow()
+    ensures { (party : PartyOf) (program : Program) (names : Option (List ℕ))
+        (replies : List ReplyOf) (entries before : List EntryOf) (call : CallOf) →
+        AreOwnEntries party program names replies entries → is_verb call ≡ true →
+        entries ≡ started party names ∷ before ++ waits party call ∷ [] →
+        Follows party program (entries ++ stopped party reason.Idle ∷ []) }
+{}
+
+/// STOP IDLE is the only entry of a unit that was never started.
+pub fn lone_idle_stops_follow()
+    ensures { (party : PartyOf) (program : Program) →
+        Follows party program (stopped party reason.Idle ∷ []) }
 {}

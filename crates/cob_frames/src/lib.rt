@@ -1,14 +1,23 @@
-//! What is left to do of a COBOL program, as a value.
+//! What a COBOL program has left to do, as a value.
 //!
-//! A unit that runs stands somewhere in its program. What it still has to do is a list of frames
-//! (`specs/Frames.antt`): the rest of a block, the rest of a paragraph, the paragraphs that are left of
-//! a range, the turns that are left of a PERFORM. `frames_do` says what such a list does, in the words of
-//! `cob_meaning`. The frames of the whole text do what the program means
-//! ([`laws::whole_text_is_the_program`]).
+//! A unit is somewhere in its program. What it has left to do is a list of frames, the innermost
+//! first (`specs/Frames.antt`): the rest of a block, the rest of a paragraph, the rest of a range,
+//! the turns that are left of a PERFORM. In
 //!
-//! `specs/Standing.antt` says what a unit stands for: whatever replies are still to come, its frames lead
-//! to what the program means, given all replies. `specs/Entries.antt` says the same of a unit's entries.
+//! ```text
+//! MAIN.  PERFORM P 3 TIMES.  STOP RUN.
+//! P.     ADD 1 TO N.  ADD 2 TO M.
+//! ```
+//!
+//! a unit that is between the two ADDs for the first time has left: the sentence `ADD 2 TO M`; no
+//! further paragraph of the range P; two turns of that range; the sentence `STOP RUN`; and the
+//! paragraph P, which follows MAIN in the whole text.
+//!
+//! `frames_do` says what such a list does, in the words of `cob_meaning`. A unit's state stands for
+//! its program and the replies so far if its frames, whatever replies come, lead to what the
+//! program means (`specs/Units.antt`). `specs/Entries.antt` says the same of a unit's entries.
+//!
+//! These are definitions with their laws ([`laws`]); there is no code.
 #![tactic(auto)]
 
-pub mod entries;
 pub mod laws;

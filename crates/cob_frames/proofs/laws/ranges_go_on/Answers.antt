@@ -1,4 +1,4 @@
-use Rattle.cob_frames.proofs.Equations.{range_is}
+use Rattle.cob_frames.proofs.FrameSteps.{range_is}
 use Rattle.cob_frames.proofs.laws.ranges_go_on.Goals as goal
 
 pub returns : goal.returns

@@ -1,4 +1,4 @@
-use Rattle.cob_frames.proofs.Stands.{stopped_is}
+use Rattle.cob_frames.proofs.UnitSteps.{stopped_is}
 use Rattle.cob_frames.proofs.laws.units_stop.Goals as goal
 
 pub returns : goal.returns

@@ -1,4 +1,4 @@
-use Rattle.cob_frames.proofs.Stands.{takes}
+use Rattle.cob_frames.proofs.UnitSteps.{takes}
 use Rattle.cob_frames.proofs.laws.units_take_replies.Goals as goal
 
 pub returns : goal.returns

@@ -1,4 +1,4 @@
-use Rattle.cob_frames.proofs.Equations.{until_is}
+use Rattle.cob_frames.proofs.FrameSteps.{until_is}
 use Rattle.cob_frames.proofs.laws.untils_go_on.Goals as goal
 
 pub returns : goal.returns

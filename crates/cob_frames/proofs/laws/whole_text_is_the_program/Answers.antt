@@ -1,4 +1,4 @@
-use Rattle.cob_frames.proofs.Equations.{whole_text_does}
+use Rattle.cob_frames.proofs.FrameSteps.{whole_text_does}
 use Rattle.cob_frames.proofs.laws.whole_text_is_the_program.Goals as goal
 
 pub returns : goal.returns

@@ -2,8 +2,8 @@ use Rattle.std.proofs.Common.{◌≡◌, List, [], ◌∷◌, ◌++◌, ap, arit
 use Rattle.com_events.specs.declared.call.Call.{Call}
 use Rattle.com_events.specs.declared.reply.Reply.TheVariants.{Done}
 use Rattle.cob_meaning.specs.Meaning.{meaning, unit_limits}
-use Rattle.cob_frames.proofs.Steps.{grown_by}
-use Rattle.cob_frames.proofs.entries.wants_leave_room.Goals as goal
+use Rattle.cob_frames.proofs.EntrySteps.{grown_by}
+use Rattle.cob_frames.proofs.laws.wants_leave_room.Goals as goal
 
 pub returns : goal.returns
 returns c = λ program names replies call wanted.

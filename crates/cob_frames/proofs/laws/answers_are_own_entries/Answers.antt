@@ -1,7 +1,7 @@
 use Rattle.std.proofs.Common.{[], ◌∷◌, ◌++◌}
 use Rattle.cob_meaning.specs.Meaning.{meaning}
-use Rattle.cob_frames.proofs.Steps.{answers, grown_by}
-use Rattle.cob_frames.proofs.entries.answers_are_own.Goals as goal
+use Rattle.cob_frames.proofs.EntrySteps.{answers, grown_by}
+use Rattle.cob_frames.proofs.laws.answers_are_own_entries.Goals as goal
 
 pub returns : goal.returns
 returns c = λ party program names replies entries call reply o is answer wanted.
