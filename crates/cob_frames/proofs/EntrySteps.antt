@@ -190,15 +190,14 @@ module _ (party : Party) (program : Program) (names : Option (List ℕ)) where
         tails : {x : Entry} {xs ys : List Entry} → x ∷ xs ≡ x ∷ ys → xs ≡ ys
         tails h = cc
 
-        abbrev verbs : List Entry → Bool
-        verbs = list_all (λ (e : Entry). is_verb e.call)
-
-        prefix : verbs (before ++ waits party call ∷ []) ≡ true → verbs before ≡ true
+        prefix : AreVerbs (before ++ waits party call ∷ []) → AreVerbs before
         prefix h =
-            by (verbs before)
+            by (list_all (λ (e : Entry). is_verb e.call) before)
             (sym (list_all-append (λ (e : Entry). is_verb e.call) before (waits party call ∷ [])) ∙ h)
           where
-            by : (b : Bool) → (b && verbs (waits party call ∷ [])) ≡ true → b ≡ true
+            by : (b : Bool)
+                → (b && list_all (λ (e : Entry). is_verb e.call) (waits party call ∷ [])) ≡ true
+                → b ≡ true
             by true g = refl
             by false g = g
 
