@@ -1,6 +1,6 @@
 -- A unit's entries with one entry more.
-use Rattle.std.proofs.Common.{◌≡◌, ℕ, ◌+◌, ◌≤◌, Bool, true, false, not, IsTrue, List, [], ◌∷◌, ◌++◌, length, map, Option, refl, sym, ap, ◌∙◌, subst, inl, inr, arith, append_assoc, append-nil, length-append, ◌&&◌, true≢false}
-use Rattle.std.specs.List.{filter, list_all}
+use Rattle.std.proofs.Common.{◌≡◌, ℕ, ◌≤◌, Bool, true, false, not, List, [], ◌∷◌, ◌++◌, length, map, Option, refl, sym, ap, ◌∙◌, subst, inl, inr, arith, append_assoc, append-nil, length-append, ◌&&◌, true≢false}
+use Rattle.std.specs.List.{list_all}
 use Rattle.std.proofs.lemmas.List.{map-append}
 use Rattle.std.proofs.lemmas.List.Elements.{filter-append}
 use Rattle.std.proofs.lemmas.List.Folds.{list_all-append}
@@ -11,7 +11,7 @@ use Rattle.com_events.specs.declared.call.StopReason.TheVariants as reason
 use Rattle.com_events.specs.declared.entry.Entry.{Entry}
 use Rattle.com_events.specs.declared.reply.Reply.{Reply}
 use Rattle.cob_meaning.specs.Meaning.{Ending, Meaning, Stopped, Wants, Program, meaning}
-use Rattle.cob_meaning.specs.Follows.{AreVerbs, Follows, SoFar, IsRunning, Makes, WaitsAtLast, StopsByItself, StopsWaiting, answers_of, calls_of, replies_of, is_verb, is_waiting, started, stopped, waits}
+use Rattle.cob_meaning.specs.Follows.{AreVerbs, Follows, SoFar, answers_of, calls_of, replies_of, is_verb, is_waiting, started, stopped, waits}
 use Rattle.com_events.specs.Fronts.{IsPrefixOf}
 use Rattle.cob_meaning.specs.Laws.{GoesOn, GoesOnFrom, Takes, TakesFrom}
 use Rattle.cob_frames.specs.Entries.{AreOwnEntries, answered_entry}
@@ -95,7 +95,8 @@ module _ (party : Party) (program : Program) (names : Option (List ℕ)) where
   module _ (replies : List Reply) (entries : List Entry)
       (o : AreOwnEntries party program names replies entries) where
     -- an entry that waits adds no reply
-    same_answers : (call : Call) → replies_of (o.verbs ++ waits party call ∷ []) ≡ replies_of o.verbs
+    same_answers : (call : Call)
+        → replies_of (o.verbs ++ waits party call ∷ []) ≡ replies_of o.verbs
     same_answers call =
         replies_more o.verbs (waits party call ∷ []) ∙ append-nil (replies_of o.verbs)
 
@@ -139,7 +140,7 @@ module _ (party : Party) (program : Program) (names : Option (List ℕ)) where
           waiting = λ other w.
               let same : entry ≡ waits party other = last_one o.verbs w.0 _ _ w.1 in
               let never : false ≡ true =
-                  sym answer ∙ ap (λ (e : Entry). is_waiting e.reply) same in
+              sym answer ∙ ap (λ (e : Entry). is_waiting e.reply) same in
               absurd (true≢false (sym never));
         }
 
@@ -167,8 +168,8 @@ module _ (party : Party) (program : Program) (names : Option (List ℕ)) where
         let waiting = waits party call ∷ [] in
         let verbs_are : o.verbs ≡ before ++ waiting = tails (sym o.entries_are ∙ at) in
         let rs : replies_of before ≡ replies =
-            sym (append-nil (replies_of before)) ∙ sym (replies_more before waiting)
-            ∙ ap replies_of (sym verbs_are) ∙ o.replies_are in
+        sym (append-nil (replies_of before)) ∙ sym (replies_more before waiting)
+        ∙ ap replies_of (sym verbs_are) ∙ o.replies_are in
         inr (inl (record {
           names = names;
           verbs = before;
@@ -193,7 +194,8 @@ module _ (party : Party) (program : Program) (names : Option (List ℕ)) where
         prefix : AreVerbs (before ++ waits party call ∷ []) → AreVerbs before
         prefix h =
             by (list_all (λ (e : Entry). is_verb e.call) before)
-            (sym (list_all-append (λ (e : Entry). is_verb e.call) before (waits party call ∷ [])) ∙ h)
+            (sym (list_all-append (λ (e : Entry). is_verb e.call) before (waits party call ∷ []))
+            ∙ h)
           where
             by : (b : Bool)
                 → (b && list_all (λ (e : Entry). is_verb e.call) (waits party call ∷ [])) ≡ true
@@ -211,9 +213,16 @@ grown_by here there call replies reply w g t u =
     let taken : length here.calls ≡ length replies = subst (λ e. TakesFrom e here replies) w t in
     let most : length there.calls ≤ length (replies ++ reply ∷ []) = at_most there.ending u in
     let none_left : prefix.0 ≡ [] =
-        empty prefix.0
-        (omega (arith, ap length prefix.1, length-append called prefix.0,
-        length-append here.calls (call ∷ []), length-append replies (reply ∷ []), taken, most)) in
+    empty prefix.0
+    (omega (
+      arith,
+      ap length prefix.1,
+      length-append called prefix.0,
+      length-append here.calls (call ∷ []),
+      length-append replies (reply ∷ []),
+      taken,
+      most,
+    )) in
     prefix.1 ∙ ap (λ l. called ++ l) none_left ∙ append-nil called
   where
     at_most : (e : Ending) → TakesFrom e there (replies ++ reply ∷ [])

@@ -1,5 +1,5 @@
 -- What frames do, one step at a time, with one bound on both sides.
-use Rattle.std.proofs.Common.{Option, ◌≡◌, ℕ, zero, suc, ◌+◌, ◌-◌, ◌<◌, ◌≤◌, List, [], ◌∷◌, length, take, drop, get_or, Some, refl, sym, ap, ◌∙◌, arith, drop-cons, add-one, Bool}
+use Rattle.std.proofs.Common.{Option, ◌≡◌, ℕ, suc, ◌+◌, ◌-◌, ◌<◌, ◌≤◌, List, [], ◌∷◌, length, take, drop, get_or, Some, refl, sym, ap, ◌∙◌, arith, drop-cons, add-one, Bool}
 use Rattle.std.specs.Prelude.{slice_get}
 use Rattle.std.proofs.Math.ListN.{drop_of_length-le}
 use Rattle.std.proofs.lemmas.List.{get_or-take, length-take-le}
@@ -31,7 +31,7 @@ one_from_to text k last p le lt h =
     let len : length xs ≡ last + 1 = length-take-le (last + 1) text (omega arith) in
     let within : k < length xs = omega arith in
     let head : get_or xs k p ≡ p =
-        get_or-take (last + 1) text k p (omega arith) ∙ get_or_from_slice_get text k p p h in
+    get_or-take (last + 1) text k p (omega arith) ∙ get_or_from_slice_get text k p p h in
     drop-cons xs k p within ∙ ap (λ x. x ∷ drop (suc k) xs) head
     ∙ ap (λ i. p ∷ drop i xs) (sym (add-one k))
 
@@ -40,7 +40,7 @@ pub none_from_to : (text : List ParagraphTree) (k last : ℕ) → last < k → l
     → from_to text k last ≡ []
 none_from_to text k last past lt =
     let len : length (take (last + 1) text) ≡ last + 1 =
-        length-take-le (last + 1) text (omega arith) in
+    length-take-le (last + 1) text (omega arith) in
     drop_of_length-le (take (last + 1) text) (omega arith)
 
 -- nothing more to do changes nothing
@@ -115,7 +115,8 @@ module _ (n : ℕ) (layout : Layout) (text : List ParagraphTree) where
 
   -- a GO goes on at its paragraph, in the range that runs
   pub go_goes_on : (frames : List Frame) (to : ℕ) (run : Run) → run.left < n
-      → meaning_of (Do frames (Jump to run)) ≡ meaning_of (Do (frames_after_go to frames) (Normal run))
+      → meaning_of (Do frames (Jump to run))
+      ≡ meaning_of (Do (frames_after_go to frames) (Normal run))
   go_goes_on [] to run lt = refl
   go_goes_on (rest_of block ∷ frames) to run lt = go_goes_on frames to run lt
   go_goes_on (sentences_left sentences ∷ frames) to run lt = go_goes_on frames to run lt

@@ -72,7 +72,8 @@ pub record Waits (program : Program) (names : Option (List ℕ)) (replies : List
   pub within : p.left < unit_bound
   pub leads : Leads program names replies p (verb_does program request no_data)
 
--- a unit that has stopped: whatever replies come, the program stops with these calls and this reason
+-- a unit that has stopped: whatever replies come, the program makes these calls and stops for this
+-- reason
 abbrev pub HasStopped : Program → Option (List ℕ) → List Reply → StopReason → List Call → Type 0
 HasStopped program names replies reason calls =
     (more : List Reply)

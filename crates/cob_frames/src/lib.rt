@@ -5,13 +5,14 @@
 //! the turns that are left of a PERFORM. In
 //!
 //! ```text
-//! MAIN.  PERFORM P 3 TIMES.  STOP RUN.
-//! P.     ADD 1 TO N.  ADD 2 TO M.
+//! MAIN.  PERFORM P THRU Q 3 TIMES.  STOP RUN.
+//! P.     ADD 1 TO M.  ADD 2 TO N.
+//! Q.     ADD 4 TO M.
 //! ```
 //!
-//! a unit that is between the two ADDs for the first time has left: the sentence `ADD 2 TO M`; no
-//! further paragraph of the range P; two turns of that range; the sentence `STOP RUN`; and the
-//! paragraph P, which follows MAIN in the whole text.
+//! a unit that has done the first ADD of its first turn has left: the sentence `ADD 2 TO N`; the
+//! paragraph Q of the range; two turns of the range; the sentence `STOP RUN`; and the paragraphs P
+//! and Q, which follow MAIN in the whole text.
 //!
 //! `frames_do` says what such a list does, in the words of `cob_meaning`. A unit's state stands for
 //! its program and the replies so far if its frames, whatever replies come, lead to what the
