@@ -21,12 +21,15 @@ adds digits text = block_of (add_of (by_number digits) (item text) ∷ [])
 abbrev shown : List ℕ → Block
 shown text = block_of (shows text ∷ [])
 
+-- PERFORM P THRU Q 3 TIMES
+abbrev performs : Block
+performs =
+    block_of (perform_thru (codes "P") (codes "Q") (repetitions.Times (by_number (codes "3"))) ∷ [])
+
 -- MAIN. PERFORM P THRU Q 3 TIMES. SEND D FROM M.
 abbrev main : ParagraphTree
 main = record (paragraph (codes "MAIN") []) {
-  sentences =
-      block_of (perform_thru (codes "P") (codes "Q") (repetitions.Times (by_number (codes "3"))) ∷ [])
-      ∷ shown (codes "M") ∷ [];
+  sentences = performs ∷ shown (codes "M") ∷ [];
 }
 
 -- P. ADD 1 TO M. ADD 2 TO N.
@@ -79,8 +82,8 @@ adds_to_n : come_to 999997 (after_add (codes "N")) ≡ sent (codes "12351")
 unfolding unit_limits
 adds_to_n = refl
 
--- what is left begins eleven statements and turns up to SEND: two ADDs, two turns of three ADDs each,
--- and SEND
+-- what is left begins eleven statements and turns up to SEND: two ADDs, two turns of three ADDs
+-- each, and SEND
 eleven_are_enough : come_to 11 (after_add (codes "M")) ≡ sent (codes "057")
 unfolding unit_limits
 eleven_are_enough = refl
@@ -129,11 +132,11 @@ unfolding unit_limits
 go_again = refl
 
 -- the statements of NO DATA come first if there is no data
-no_data : frames_after_reply (reply.NoData []) (adds (codes "1") (codes "M")) (after_add (codes "M"))
-    ≡ rest_of (adds (codes "1") (codes "M")) ∷ after_add (codes "M")
+no_data : frames_after_reply (reply.NoData []) performs (after_add (codes "M"))
+    ≡ rest_of performs ∷ after_add (codes "M")
 no_data = refl
 
 -- the statements of NO DATA are passed over if there is a text
-text_given : frames_after_reply (reply.Given [] []) (adds (codes "1") (codes "M")) (after_add (codes "M"))
+text_given : frames_after_reply (reply.Given [] []) performs (after_add (codes "M"))
     ≡ after_add (codes "M")
 text_given = refl
