@@ -192,3 +192,8 @@ range_alike (suc n) layout text begin last =
 -- one bound more is the same
 pub range_more : (n : ℕ) (layout : Layout) (text : List ParagraphTree) (begin last : ℕ) (run : Run) → run.left < n → range n layout text begin last run ≡ range (suc n) layout text begin last run
 range_more n layout text begin last run lt = ((range_alike n layout text begin last).from run lt).same
+
+-- one turn more to be allowed is the same
+pub until_more : (n : ℕ) (layout : Layout) (text : List ParagraphTree) (first last : ℕ) (test : Storage → Option Bool) (run : Run) → run.left < n → until n test (range n layout text first last) run ≡ until (suc n) test (range n layout text first last) run
+until_more n layout text first last test run lt =
+    ((until_alike n n test (range n layout text first last) (range n layout text first last) (omega arith) (record { from = λ t l. itself _ _ (((range_alike n layout text first last).from t l).within) })).from run lt).same

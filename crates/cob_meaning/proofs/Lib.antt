@@ -12,11 +12,11 @@ mod Placed
 pub mod RangeFaults
 pub mod Readable
 mod Replies
-mod SmallPrograms
+pub mod SmallPrograms
 mod SoundTokens
 mod Steady
 mod Stored
-mod Trees
+pub mod Trees
 mod WellFormed
 mod WellFormedRuns
 mod WorkedFaults

@@ -1,0 +1,4 @@
+pub mod EntrySteps
+pub mod FrameSteps
+pub mod UnitSteps
+pub mod WorkedFrames
