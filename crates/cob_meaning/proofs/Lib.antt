@@ -1,7 +1,7 @@
 pub mod Bounds
 pub mod CheckedParts
 pub mod CheckedText
-mod Divided
+pub mod Divided
 pub mod FirstFaults
 mod Fronts
 mod Lasting

@@ -1,0 +1,16 @@
+pub mod Rows
+pub mod Closing
+pub mod Numbering
+pub mod Capping
+pub mod Naming
+pub mod Joined
+pub mod Placing
+pub mod InTrees
+pub mod Firsts
+pub mod Looking
+pub mod Marking
+pub mod Reaching
+pub mod Reading
+pub mod Pairs
+pub mod Narrowing
+pub mod Answering

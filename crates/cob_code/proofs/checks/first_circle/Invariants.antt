@@ -1,0 +1,8 @@
+use Rattle.std.proofs.Common.{◌≡◌, drop}
+use Rattle.std.specs.Prelude.{flat_map}
+use Rattle.cob_forms.specs.Faults.{earlier, first}
+use Rattle.cob_code.specs.inner.RangeFaults.{circling}
+use Rattle.cob_code.proofs.checks.first_circle.Given as goal
+
+abbrev pub invariant-performs : goal.invariant-performs
+invariant-performs l = earlier l.found (first (flat_map (circling l.table) (drop l.range-index l.ranges))) ≡ first (flat_map (circling l.table) l.ranges)

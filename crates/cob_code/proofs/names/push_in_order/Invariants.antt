@@ -1,0 +1,9 @@
+use Rattle.std.proofs.Common.{◌≡◌, ◌++◌, length}
+use Rattle.cob_code.specs.inner.Referents.{listed, names_entries}
+use Rattle.cob_code.proofs.names.push_in_order.Given as goal
+
+abbrev pub invariant-names : goal.invariant-names
+invariant-names l = listed l.entries.items ++ names_entries l.names l.fields ≡ listed l.initial.entries.items ++ names_entries l.initial.names l.initial.fields
+
+abbrev pub decreases-names : goal.decreases-names
+decreases-names l = length l.names

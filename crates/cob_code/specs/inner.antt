@@ -1,0 +1,11 @@
+pub mod Answers
+pub mod Bounds
+pub mod Leading
+pub mod Numbered
+pub mod Numbers
+pub mod RangeFaults
+pub mod Referents
+pub mod Rules
+pub mod Sets
+pub mod Statements
+pub mod Written

@@ -1,0 +1,10 @@
+       IDENTIFICATION DIVISION.
+       PROGRAM-ID. CASES.
+       DATA DIVISION.
+       PROCEDURE DIVISION.
+       A.
+           PERFORM A.
+           PERFORM B.
+           STOP RUN.
+       B.
+           GO TO A.

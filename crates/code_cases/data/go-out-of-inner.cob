@@ -1,0 +1,16 @@
+       IDENTIFICATION DIVISION.
+       PROGRAM-ID. CASES.
+       DATA DIVISION.
+       PROCEDURE DIVISION.
+       A.
+           PERFORM B THRU E.
+           PERFORM C THRU D.
+           STOP RUN.
+       B.
+           GO TO E.
+       C.
+           GO TO E.
+       D.
+           EXIT.
+       E.
+           EXIT.

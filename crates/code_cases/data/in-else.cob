@@ -1,0 +1,21 @@
+       IDENTIFICATION DIVISION.
+       PROGRAM-ID. CASES.
+       DATA DIVISION.
+       WORKING-STORAGE SECTION.
+       77  N PIC 9(3).
+       77  X1 PIC X.
+       77  X10 PIC X(10).
+       77  X11 PIC X(11).
+       01  G.
+           02 G1 PIC 9.
+       COMMUNICATION SECTION.
+       CD  IN-CD FOR INPUT SYMBOLIC QUEUE IS Q TEXT LENGTH IS L.
+       CD  OUT-CD FOR OUTPUT DESTINATION COUNT IS C
+           DESTINATION TABLE OCCURS 3 TIMES
+           ERROR KEY IS E SYMBOLIC DESTINATION IS D.
+       PROCEDURE DIVISION.
+       MAIN.
+           IF N = 1
+               EXIT
+           ELSE
+               MOVE NOPE TO N.

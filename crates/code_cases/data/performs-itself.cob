@@ -1,0 +1,6 @@
+       IDENTIFICATION DIVISION.
+       PROGRAM-ID. CASES.
+       DATA DIVISION.
+       PROCEDURE DIVISION.
+       A.
+           PERFORM A.

@@ -1,0 +1,8 @@
+       IDENTIFICATION DIVISION.
+       PROGRAM-ID. CASES.
+       DATA DIVISION.
+       PROCEDURE DIVISION.
+       A.
+           EXIT.
+       B.
+           PERFORM A THRU A.
