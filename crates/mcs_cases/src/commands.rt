@@ -49,6 +49,24 @@ impl Files {
         format!(in self.alloc; "{count} bytes")
     }
 
+    /// Puts a file of the folder under another name. A file that cannot be read has no bytes.
+    pub fn put_file(
+        &mut self,
+        rt: &HostRuntime,
+        name: &[u8],
+        file: &[u8],
+    ) -> Result<String, AllocError> {
+        let name = Vec::from_slice(self.alloc, name)?;
+        let bytes = match read_file(self.alloc, &mut DirStore::new(rt), text_of(file), LIMIT) {
+            Ok(bytes) => bytes,
+            Err(ReadFault::Memory) => return Err(AllocError),
+            Err(_) => Vec::new(self.alloc),
+        };
+        let count = bytes.len();
+        self.files.push(File { name, bytes })?;
+        format!(in self.alloc; "{count} bytes")
+    }
+
     /// Puts a script of these lines.
     pub fn put_script(&mut self, lines: &[Vec<u8>]) -> Result<(), AllocError> {
         let mut bytes = Vec::from_slice(self.alloc, b"MCS-SCRIPT 1\n")?;
@@ -100,6 +118,16 @@ pub fn replay_of(alloc: Global, description: &[u8]) -> Result<Vec<Vec<u8>>, Allo
     let mut words = Vec::new(alloc);
     for word in [b"replay".as_slice(), description, SCRIPT] {
         words.push(Vec::from_slice(alloc, word)?)?;
+    }
+    Ok(words)
+}
+
+/// The words that check a description, which is the first of these names.
+pub fn check_of(alloc: Global, names: &[Vec<u8>]) -> Result<Vec<Vec<u8>>, AllocError> {
+    let mut words = Vec::new(alloc);
+    words.push(Vec::from_slice(alloc, b"check")?)?;
+    if let Some(description) = names.first() {
+        words.push(Vec::from_slice(alloc, description)?)?;
     }
     Ok(words)
 }

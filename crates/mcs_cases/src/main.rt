@@ -3,7 +3,9 @@
 //! output.
 //!
 //! `tool` does a command over a store in memory that has the files which the command names: those
-//! that were `put`, and else those of `data/`. `text`, `bytes` and `totals` tell what it wrote
+//! that were `put`, and else those of `data/`. `check` does that command, where the words after the
+//! description name its programs, and `line` a replay of the lines after the description. `put_file`
+//! puts a file of `data/` under another name. `text`, `bytes` and `totals` show what a command wrote
 //! under a name.
 #![tactic(auto)]
 
@@ -33,6 +35,8 @@ impl Cases for Desk<'_> {
             b"put" => self.files.put(words),
             b"tool" => self.tool(words.rest()),
             b"line" => self.line(words),
+            b"check" => self.check(words),
+            b"put_file" => self.put_file(words),
             b"text" => written::text(self.rt.alloc(), &self.store, words.bytes()),
             b"bytes" => written::bytes(self.rt.alloc(), &self.store, words.bytes()),
             b"totals" => written::totals(self.rt.alloc(), &self.store, words.bytes()),
@@ -47,6 +51,24 @@ impl Desk<'_> {
         self.store = self.files.store_of(self.rt, words)?;
         let status = commands::tool_of(self.rt.alloc(), words, &mut self.store)?;
         format!(in self.rt.alloc(); "{status}")
+    }
+
+    /// The exit status of the check of the first file, whose programs are the others, and what it wrote to
+    /// standard output.
+    fn check(&mut self, words: &mut Words<'_>) -> Result<String, AllocError> {
+        let alloc = self.rt.alloc();
+        let names = words.rest();
+        self.store = self.files.store_of(self.rt, names)?;
+        let command = commands::check_of(alloc, names)?;
+        let status = commands::tool_of(alloc, &command, &mut self.store)?;
+        let report = written::bytes(alloc, &self.store, b"-")?;
+        format!(in alloc; "{status} {report}")
+    }
+
+    /// Puts a file of the folder under another name.
+    fn put_file(&mut self, words: &mut Words<'_>) -> Result<String, AllocError> {
+        let name = words.bytes();
+        self.files.put_file(self.rt, name, words.bytes())
     }
 
     /// The exit status of the replay of a script of these lines over a description, and what it

@@ -1,5 +1,5 @@
 //! Openings and reads that fail: the file is named, and nothing else is written.
-use crate::runs::{REPLAY, SHOW, assert_written, status_of, store_of};
+use crate::runs::{CHECK, REPLAY, SHOW, assert_written, status_of, store_of};
 use std::alloc::Global;
 use std::process::Abort;
 use std::test::Fail;
@@ -47,6 +47,12 @@ fn a_script_that_is_not_opened_is_named(rt: HostRuntime) -> Result<(), Fail> {
 }
 
 #[test]
+fn a_program_that_is_not_opened_is_named(rt: HostRuntime) -> Result<(), Fail> {
+    assert_unopened(&rt, rt.alloc(), CHECK, 1, b"cannot read net.toml\n")?;
+    assert_unopened(&rt, rt.alloc(), CHECK, 2, b"cannot read echo.cob\n")
+}
+
+#[test]
 fn an_input_that_is_not_opened_is_named(rt: HostRuntime) -> Result<(), Fail> {
     assert_unopened(&rt, rt.alloc(), SHOW, 1, b"cannot read t1.in\n")
 }
@@ -61,6 +67,13 @@ fn a_description_whose_read_fails_is_named(rt: HostRuntime) -> Result<(), Fail> 
 fn a_script_whose_read_fails_is_named(rt: HostRuntime) -> Result<(), Fail> {
     let report = b"cannot read script.txt\n";
     assert_unread(&rt, rt.alloc(), REPLAY, "script.txt", report)
+}
+
+#[test]
+fn a_program_whose_read_fails_is_named(rt: HostRuntime) -> Result<(), Fail> {
+    let (net, program) = (b"cannot read net.toml\n", b"cannot read echo.cob\n");
+    assert_unread(&rt, rt.alloc(), CHECK, "net.toml", net)?;
+    assert_unread(&rt, rt.alloc(), CHECK, "echo.cob", program)
 }
 
 #[test]

@@ -24,6 +24,14 @@ const NET: &[u8] = b"version = 1\n\
     name = \"ECHO\"\n\
     source = \"echo.cob\"\n";
 
+/// The program of the run unit.
+const PROGRAM: &[u8] = b"       IDENTIFICATION DIVISION.\n\
+    \x20      PROGRAM-ID. ECHO.\n\
+    \x20      DATA DIVISION.\n\
+    \x20      PROCEDURE DIVISION.\n\
+    \x20      A1.\n\
+    \x20          STOP RUN.\n";
+
 /// A message to both terminals.
 const SCRIPT: &[u8] = b"MCS-SCRIPT 1\n\
     U ECHO START\n\
@@ -48,14 +56,18 @@ pub const SUMMARY: &[u8] = b"unit ECHO -\n\
 /// The words of the replay.
 pub const REPLAY: &[&str] = &["replay", "net.toml", "script.txt"];
 
+/// The words of the check.
+pub const CHECK: &[&str] = &["check", "net.toml"];
+
 /// The words of the showing.
 pub const SHOW: &[&str] = &["show", "marks", "t1.in"];
 
-/// A store that has the files of both commands.
+/// A store that has the files of the commands.
 pub fn store_of(alloc: Global) -> Result<MemoryStore, AllocError> {
     let mut store = MemoryStore::new(alloc);
     store.put("net.toml", NET)?;
     store.put("script.txt", SCRIPT)?;
+    store.put("echo.cob", PROGRAM)?;
     store.put("t1.in", b"AB\x03")?;
     Ok(store)
 }

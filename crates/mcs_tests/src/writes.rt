@@ -1,5 +1,7 @@
 //! Writes that fail: what was written before, and how much of the one that failed.
-use crate::runs::{JOURNAL, REPLAY, SENT, SHOW, SUMMARY, assert_written, status_of, store_of};
+use crate::runs::{
+    CHECK, JOURNAL, REPLAY, SENT, SHOW, SUMMARY, assert_written, status_of, store_of,
+};
 use std::alloc::Global;
 use std::process::Abort;
 use std::test::Fail;
@@ -19,7 +21,7 @@ fn assert_stopped<A: Abort>(
     Ok(())
 }
 
-/// Asserts the status of a command whose only write fails after four bytes, which stay.
+/// Asserts the status of a command whose only write fails after these bytes, which stay.
 fn assert_cut<A: Abort>(
     rt: &A,
     alloc: Global,
@@ -31,7 +33,7 @@ fn assert_cut<A: Abort>(
     store.put("bad.toml", b"version = 2\n")?;
     store.put("bad.txt", b"MCS-SCRIPT 2\n")?;
     store.put("bad.in", b"AB")?;
-    store.fail_write(1, 4)?;
+    store.fail_write(1, kept.len())?;
     assert_eq!(rt; status_of(alloc, words, &mut store)?, status);
     assert_written(rt, &store, [None, None, None, Some(kept)]);
     Ok(())
@@ -100,6 +102,23 @@ fn a_failing_write_of_a_report_leaves_the_status(rt: HostRuntime) -> Result<(), 
     )?;
     assert_cut(&rt, alloc, &["replay", "net.toml", "bad.txt"], 8, b"scri")?;
     assert_cut(&rt, alloc, &["show", "marks", "bad.in"], 9, b"faul")
+}
+
+#[test]
+fn a_failing_write_of_the_fault_of_a_program_leaves_the_status(
+    rt: HostRuntime,
+) -> Result<(), Fail> {
+    let mut store = store_of(rt.alloc())?;
+    store.put("echo.cob", b"")?;
+    store.fail_write(1, 4)?;
+    assert_eq!(rt; status_of(rt.alloc(), CHECK, &mut store)?, 4);
+    assert_written(&rt, &store, [None, None, None, Some(b"sour")]);
+    Ok(())
+}
+
+#[test]
+fn a_failing_write_of_ok_is_a_failed_write(rt: HostRuntime) -> Result<(), Fail> {
+    assert_cut(&rt, rt.alloc(), CHECK, 7, b"o")
 }
 
 #[test]

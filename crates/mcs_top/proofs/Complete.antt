@@ -11,6 +11,7 @@ use Rattle.mcs_top.specs.declared.show.Ending.TheVariants as ending
 use Rattle.mcs_top.specs.Show.{EndsSo}
 use Rattle.mcs_top.specs.Showing.{IsFaultyInputTold, IsShowUnwritten}
 use Rattle.mcs_top.proofs.CompleteReplay.{replay_done_told}
+use Rattle.mcs_top.proofs.CompleteCheck.{check_done_told}
 use Rattle.mcs_top.proofs.Reading.{never_unread, read_is}
 use Rattle.mcs_top.specs.Outcome.{IsShowOutcome, IsOutcome, IsUnfailed, CanShow, IsComplete}
 use Rattle.com_msg.specs.declared.message.RawMessage.{RawMessage}
@@ -52,5 +53,6 @@ show_done_told framing file status before after (Some c) told can unfailed outco
 pub complete : (words : List (List ℕ)) (status : ℕ) (before after : Shown) → IsOutcome words status before after → IsComplete words status before after
 complete words status before after outcome = record {
   replay = λ net_file script_file is can unfailed. replay_done_told net_file script_file status before after before.contents refl can unfailed (outcome.replay net_file script_file is);
+  check = λ net_file is can unfailed. check_done_told net_file status before after before.contents refl can unfailed (outcome.check net_file is);
   show = λ framing file is can unfailed. show_done_told framing file status before after before.contents refl can unfailed (outcome.show framing file is);
 }

@@ -4,6 +4,9 @@ mod Outs
 mod Performance
 mod Replays
 mod Outcomes
+mod Checks
+mod CompleteCheck
+mod CheckOutcomes
 mod ByWords
 mod Complete
 mod Framing

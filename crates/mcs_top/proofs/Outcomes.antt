@@ -2,7 +2,7 @@
 use Rattle.std.proofs.Common.{◌≡◌, ◌≢◌, ℕ, List, sym, ◌∙◌, inl, inr, arith}
 use Rattle.com_io.specs.Stores.{Shown}
 use Rattle.com_msg.specs.declared.framing.Framing.{Framing}
-use Rattle.mcs_top.specs.declared.report.Refusal.TheVariants.{Usage, Description, Unread, Script, Input}
+use Rattle.mcs_top.specs.declared.report.Refusal.TheVariants.{Usage, Description, Unread, Source, Script, Input}
 use Rattle.mcs_top.specs.declared.report.Failure.{Failure}
 use Rattle.mcs_top.specs.declared.report.Failure.TheVariants.{Refused, Write, Memory}
 use Rattle.mcs_top.specs.declared.ends.Verdict.TheVariants.{Sound, Faulty}
@@ -13,7 +13,7 @@ use Rattle.mcs_top.specs.Showing.{HasShown, IsShowUnwritten, IsFaultyInput, IsFa
 use Rattle.mcs_top.specs.Outcome.{IsUsageOutcome, IsReplayOutcome, IsReplayWithoutMemory, IsDescriptionTold, IsUnreadTold, IsScriptTold, IsShowOutcome, IsShowWithoutMemory, IsInputUnread}
 
 -- a status has one value
-other : {P : Type 0} {status n m : ℕ} → status ≡ n → n ≢ m → status ≡ m → P
+pub other : {P : Type 0} {status n m : ℕ} → status ≡ n → n ≢ m → status ≡ m → P
 other is differs also = absurd (differs (sym is ∙ also))
 
 pub usage_outcome : (before after : Shown) (status : ℕ) → IsRefusedWith Usage status before after → IsUsageOutcome status before after
@@ -59,6 +59,7 @@ replay_answered net_file script_file before tried after (Refused (Unread name)) 
 replay_answered net_file script_file before tried after (Refused (Script line reason)) status h (inl answer) = replay_script answer.0 (tried, line, reason, h, answer.1)
 replay_answered net_file script_file before tried after (Refused (Script line reason)) status h (inr answer) = replay_memory answer.0 (inr (inr (inr (inr (tried, line, reason, h, answer.1)))))
 replay_answered net_file script_file before tried after (Refused (Input text)) status h answer = absurd h
+replay_answered net_file script_file before tried after (Refused (Source unit fault)) status h answer = absurd h
 replay_answered net_file script_file before tried after Write status h answer = replay_unwritten answer.0 (rw answer.1 h)
 replay_answered net_file script_file before tried after Memory status (inl h) answer = replay_memory answer.0 (inl (rw answer.1 h))
 replay_answered net_file script_file before tried after Memory status (inr h) answer = replay_memory answer.0 (inr (inl (rw answer.1 h)))
@@ -91,6 +92,7 @@ show_answered framing file before tried after (Refused (Description fault)) stat
 show_answered framing file before tried after (Refused (Unread name)) status h (inl answer) = show_unread answer.0 (tried, h.1, rw (← h.0) answer.1)
 show_answered framing file before tried after (Refused (Unread name)) status h (inr answer) = show_memory answer.0 (inr (inl (tried, h.1, rw (← h.0) answer.1)))
 show_answered framing file before tried after (Refused (Script line reason)) status h answer = absurd h
+show_answered framing file before tried after (Refused (Source unit fault)) status h answer = absurd h
 show_answered framing file before tried after (Refused (Input text)) status h (inl answer) = show_faulty answer.0 (faulty_told h answer.1)
 show_answered framing file before tried after (Refused (Input text)) status h (inr answer) = show_memory answer.0 (inr (inr (faulty_told h answer.1)))
 show_answered framing file before tried after Write status h answer = show_unwritten answer.0 (rw answer.1 h)

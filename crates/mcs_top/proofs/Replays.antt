@@ -9,7 +9,7 @@ use Rattle.com_net.specs.declared.net.Net.{Net}
 use Rattle.com_events.specs.declared.entry.Entry.{Entry}
 use Rattle.mcs_top.specs.declared.run.Run.{Run}
 use Rattle.mcs_top.specs.declared.ends.Verdict.{Verdict}
-use Rattle.mcs_top.specs.declared.report.Refusal.TheVariants.{Usage, Description, Unread, Script, Input}
+use Rattle.mcs_top.specs.declared.report.Refusal.TheVariants.{Usage, Description, Unread, Source, Script, Input}
 use Rattle.mcs_top.specs.declared.report.Failure.{Failure}
 use Rattle.mcs_top.specs.declared.report.Failure.TheVariants.{Refused, Write, Memory}
 use Rattle.mcs_top.specs.Histories.{verdict_of}
@@ -25,6 +25,7 @@ net_fails net_file script_file before after (Refused (Unread told)) h = inl (h.0
 net_fails net_file script_file before after (Refused (Description fault)) h = h
 net_fails net_file script_file before after (Refused Usage) h = absurd h
 net_fails net_file script_file before after (Refused (Script line reason)) h = absurd h
+net_fails net_file script_file before after (Refused (Source unit fault)) h = absurd h
 net_fails net_file script_file before after (Refused (Input text)) h = absurd h
 net_fails net_file script_file before after Memory h = inl (inl h)
 net_fails net_file script_file before after Write h = absurd h
@@ -37,6 +38,7 @@ script_fails net_file script_file net before mid after (Refused (Script line rea
     record { between = mid; net = net; net_read = read; script = h.0; is_read = h.1; refused = h.2 }
 script_fails net_file script_file net before mid after (Refused Usage) read h = absurd h
 script_fails net_file script_file net before mid after (Refused (Description fault)) read h = absurd h
+script_fails net_file script_file net before mid after (Refused (Source unit fault)) read h = absurd h
 script_fails net_file script_file net before mid after (Refused (Input text)) read h = absurd h
 script_fails net_file script_file net before mid after Memory read h = inl (inr (record { between = mid; net = net; net_read = read; abandoned = h }))
 script_fails net_file script_file net before mid after Write read h = absurd h

@@ -1,10 +1,12 @@
 -- All calls that were made on a store between two moments.
 use Rattle.std.specs.Prelude.{◌≡◌, ℕ, true, false, List, [], ◌∷◌, ◌++◌, map, IfSome, IsSomeAnd}
+use Rattle.std.specs.List.{flat_map}
 use Rattle.com_io.specs.Stores.{StoreCall, Opened, Closed, Wrote, Writing, Contents, Shown, output_name}
 use Rattle.com_msg.specs.declared.framing.Framing.{Framing}
 use Rattle.mcs_top.specs.declared.ends.Verdict.{Verdict}
 use Rattle.mcs_top.specs.Outputs.{outputs}
 use Rattle.mcs_top.specs.Replay.{HasReplayed}
+use Rattle.mcs_top.specs.Check.{HasChecked, check_text}
 use Rattle.mcs_top.specs.Showing.{HasShown}
 
 -- These calls were made on the store, in this order, and no others.
@@ -29,6 +31,16 @@ AReplayReadsTwoFiles =
     IfSome before.contents (λ c. IsSomeAnd after.contents (λ d. WasAskedFor
     (whole_reading net_file
     ++ (whole_reading script_file ++ map done_write (outputs h.net h.history h.journal))) c d))
+
+-- A check that is done opened NET, read it to its end and closed it, then did so with the file of each
+-- unit, in their order, and then wrote once.
+abbrev pub ACheckReadsEachSource : Type 0
+ACheckReadsEachSource =
+    (net_file : List ℕ) (before after : Shown) (h : HasChecked net_file before after) →
+    IfSome before.contents (λ c. IsSomeAnd after.contents (λ d. WasAskedFor
+    (whole_reading net_file
+    ++ (flat_map (λ unit. whole_reading unit.source) h.checked.net.units
+    ++ Wrote output_name check_text true ∷ [])) c d))
 
 -- A show that is done opened FILE, read it to its end, closed it, and then wrote once.
 abbrev pub AShowReadsOneFile : Type 0

@@ -5,7 +5,7 @@ use Rattle.com_io.specs.Files.{file_limit, IsRead, IsAbandoned}
 use Rattle.com_io.specs.Stores.{Shown}
 use Rattle.com_net.specs.declared.net.Net.{Net}
 use Rattle.mcs_top.specs.declared.script.Reason.{Reason}
-use Rattle.mcs_top.specs.declared.report.Refusal.TheVariants.{Usage, Description, Unread, Script, Input}
+use Rattle.mcs_top.specs.declared.report.Refusal.TheVariants.{Usage, Description, Unread, Source, Script, Input}
 use Rattle.mcs_top.specs.declared.report.Failure.{Failure}
 use Rattle.mcs_top.specs.declared.report.Failure.TheVariants.{Refused, Write, Memory}
 use Rattle.mcs_top.specs.declared.run.Run.{Run}
@@ -24,6 +24,7 @@ IsNetFailure name before after (Refused (Description fault)) =
     IsDescriptionRefused before after name fault.kind fault.path
 IsNetFailure name before after (Refused Usage) = ⊥
 IsNetFailure name before after (Refused (Script line reason)) = ⊥
+IsNetFailure name before after (Refused (Source unit fault)) = ⊥
 IsNetFailure name before after (Refused (Input text)) = ⊥
 IsNetFailure name before after Memory = IsAbandoned file_limit name before after
 IsNetFailure name before after Write = ⊥
@@ -42,6 +43,7 @@ IsScriptFailure name net before after (Refused (Script line reason)) =
     IsRefusedScript name net before after line reason
 IsScriptFailure name net before after (Refused Usage) = ⊥
 IsScriptFailure name net before after (Refused (Description fault)) = ⊥
+IsScriptFailure name net before after (Refused (Source unit fault)) = ⊥
 IsScriptFailure name net before after (Refused (Input text)) = ⊥
 IsScriptFailure name net before after Memory = IsAbandoned file_limit name before after
 IsScriptFailure name net before after Write = ⊥
@@ -87,6 +89,7 @@ HasNotReplayed net_file script_file before after (Refused (Unread name)) =
 HasNotReplayed net_file script_file before after (Refused (Script line reason)) =
     IsScriptRefused before after net_file script_file line reason
 HasNotReplayed net_file script_file before after (Refused Usage) = ⊥
+HasNotReplayed net_file script_file before after (Refused (Source unit fault)) = ⊥
 HasNotReplayed net_file script_file before after (Refused (Input text)) = ⊥
 HasNotReplayed net_file script_file before after Memory =
     LacksMemoryToReplay before after net_file script_file

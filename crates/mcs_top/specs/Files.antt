@@ -2,7 +2,7 @@
 use Rattle.std.specs.Prelude.{◌≡◌, ℕ, ◌⊎◌, List}
 use Rattle.com_io.specs.Files.{file_limit, IsUnopened, IsUnreadable, IsAbandoned}
 use Rattle.com_io.specs.Stores.{Shown}
-use Rattle.mcs_top.specs.declared.report.Refusal.TheVariants.{Usage, Description, Unread, Script, Input}
+use Rattle.mcs_top.specs.declared.report.Refusal.TheVariants.{Usage, Description, Unread, Source, Script, Input}
 use Rattle.mcs_top.specs.declared.report.Failure.{Failure}
 use Rattle.mcs_top.specs.declared.report.Failure.TheVariants.{Refused, Write, Memory}
 
@@ -19,5 +19,6 @@ IsNotReadFor name before after Memory = IsAbandoned file_limit name before after
 IsNotReadFor name before after (Refused Usage) = ⊥
 IsNotReadFor name before after (Refused (Description fault)) = ⊥
 IsNotReadFor name before after (Refused (Script line reason)) = ⊥
+IsNotReadFor name before after (Refused (Source unit fault)) = ⊥
 IsNotReadFor name before after (Refused (Input text)) = ⊥
 IsNotReadFor name before after Write = ⊥

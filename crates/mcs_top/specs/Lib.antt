@@ -10,4 +10,7 @@ pub mod Words
 pub mod Show
 pub mod Showing
 pub mod Outcome
+pub mod Programs
+pub mod Check
+pub mod Checking
 pub mod Calls

@@ -2,12 +2,14 @@
 -- after it.
 use Rattle.std.specs.Prelude.{◌≡◌, ℕ, ◌⊎◌, ◌≤◌, List, length, Some, None, IsSome, IsSomeAnd}
 use Rattle.std.specs.FinMap as map
+use Rattle.std.specs.List.{All}
 use Rattle.com_io.specs.Faults.{Rose}
 use Rattle.com_io.specs.Stores.{Contents, Shown}
 use Rattle.com_msg.specs.declared.message.RawMessage.{RawMessage}
 use Rattle.com_msg.specs.declared.framing.Framing.{Framing}
 use Rattle.com_lines.specs.Frames.{Frames}
 use Rattle.com_net.specs.declared.net.Net.{Net}
+use Rattle.com_net.specs.declared.net.UnitRow.{UnitRow}
 use Rattle.com_net.specs.declared.fault.NetKind.{NetKind}
 use Rattle.com_net.specs.Description.{net_of}
 use Rattle.com_events.specs.declared.call.Party.{Party}
@@ -15,12 +17,16 @@ use Rattle.com_events.specs.declared.call.Call.{Call}
 use Rattle.com_journal.specs.Scripts.{IsScript}
 use Rattle.com_state.specs.Histories.{run}
 use Rattle.com_io.specs.Files.{file_limit}
+use Rattle.cob_lex.specs.declared.fault.SourceFault.{SourceFault}
+use Rattle.cob_meaning.specs.Meaning.{Program}
+use Rattle.cob_meaning.specs.Sources.{IsProgramOf}
 use Rattle.mcs_top.specs.declared.script.Reason.{Reason}
 use Rattle.mcs_top.specs.declared.ends.Verdict.TheVariants.{Sound, Faulty}
 use Rattle.mcs_top.specs.Files.{IsNotRead}
-use Rattle.mcs_top.specs.Words.{IsReplay, IsShow, IsNoCommand}
-use Rattle.mcs_top.specs.Reports.{IsReported, IsCutReport, usage_report, description_report, unreadable_report, script_report}
+use Rattle.mcs_top.specs.Words.{IsReplay, IsCheck, IsShow, IsNoCommand}
+use Rattle.mcs_top.specs.Reports.{IsReported, IsCutReport, usage_report, description_report, unreadable_report, source_report, script_report}
 use Rattle.mcs_top.specs.Replay.{HasReplayed, IsReplayUnwritten, LacksMemoryToWrite, LacksMemoryToReplay, IsDescriptionRefused, IsFileUnread, IsScriptRefused}
+use Rattle.mcs_top.specs.Check.{IsCheckTold, HasChecked, IsCheckUnwritten, IsCheckedFileUnread, IsSourceRefused, LacksMemoryToCheck}
 use Rattle.mcs_top.specs.Showing.{HasShown, IsShowUnwritten, LacksMemoryToShow, IsFaultyInputTold}
 
 -- The words are no command, and the usage line was written.
@@ -72,6 +78,38 @@ pub record IsReplayOutcome (net_file script_file : List ℕ) (status : ℕ)
   pub statuses : (status ≡ 0) ⊎ ((status ≡ 1) ⊎ ((status ≡ 3) ⊎ ((status ≡ 5)
       ⊎ ((status ≡ 6) ⊎ ((status ≡ 7) ⊎ (status ≡ 8))))))
 
+-- NET could not be read, or the file of a program that it names.
+abbrev pub IsCheckedFileUnreadTold : List ℕ → Shown → (Shown → List ℕ → Type 0) → Type 0
+IsCheckedFileUnreadTold net_file before Told =
+    (tried : Shown) × (name : List ℕ)
+    × IsCheckedFileUnread net_file before tried name × Told tried (unreadable_report name)
+
+-- The source of a unit was read and has a fault, and those of the units before it have none.
+abbrev pub IsSourceTold : List ℕ → Shown → (Shown → List ℕ → Type 0) → Type 0
+IsSourceTold net_file before Told =
+    (tried : Shown) × (name : List ℕ) × (fault : SourceFault)
+    × IsSourceRefused net_file before tried name fault × Told tried (source_report name fault)
+
+-- Memory ran out: at a file, in the write of `ok`, or while a report was made or written.
+abbrev pub IsCheckWithoutMemory : List ℕ → Shown → Shown → Type 0
+IsCheckWithoutMemory net_file before after =
+    LacksMemoryToCheck net_file before after
+    ⊎ (IsCheckTold net_file before (IsCutReport after)
+    ⊎ (IsDescriptionTold net_file before (IsCutReport after)
+    ⊎ (IsCheckedFileUnreadTold net_file before (IsCutReport after)
+    ⊎ IsSourceTold net_file before (IsCutReport after))))
+
+-- What became of `check NET`.
+pub record IsCheckOutcome (net_file : List ℕ) (status : ℕ) (before after : Shown) : Type 0 where
+  pub checked : status ≡ 0 → HasChecked net_file before after
+  pub memory : status ≡ 1 → IsCheckWithoutMemory net_file before after
+  pub description : status ≡ 3 → IsDescriptionTold net_file before (IsReported after)
+  pub source : status ≡ 4 → IsSourceTold net_file before (IsReported after)
+  pub unread : status ≡ 5 → IsCheckedFileUnreadTold net_file before (IsReported after)
+  pub unwritten : status ≡ 7 → IsCheckUnwritten net_file before after
+  pub statuses : (status ≡ 0) ⊎ ((status ≡ 1) ⊎ ((status ≡ 3) ⊎ ((status ≡ 4) ⊎ ((status ≡ 5)
+      ⊎ (status ≡ 7)))))
+
 -- FILE could not be read.
 abbrev pub IsInputUnread : List ℕ → Shown → (Shown → List ℕ → Type 0) → Type 0
 IsInputUnread file before Told =
@@ -99,6 +137,8 @@ pub record IsOutcome (words : List (List ℕ)) (status : ℕ) (before after : Sh
   pub usage : IsNoCommand words → IsUsageOutcome status before after
   pub replay : (net_file script_file : List ℕ) → IsReplay words net_file script_file
       → IsReplayOutcome net_file script_file status before after
+  pub check : (net_file : List ℕ) → IsCheck words net_file
+      → IsCheckOutcome net_file status before after
   pub show : (framing : Framing) (file : List ℕ) → IsShow words framing file
       → IsShowOutcome framing file status before after
   pub pending : after.pending ≡ before.pending
@@ -123,6 +163,21 @@ pub record CanReplay (net_file script_file : List ℕ) (c : Contents) : Type 0 w
   pub are_calls : IsScript calls script
   pub allowed : IsSome (run net calls)
 
+-- The store has the file of a unit, and its source is a program.
+pub record HasProgram (c : Contents) (unit : UnitRow) : Type 0 where
+  pub source : List ℕ
+  pub there : map.get c.files unit.source ≡ Some source
+  pub program : Program
+  pub is_program : IsProgramOf source program
+
+-- The store has NET, which describes a network, and the program of each of its units.
+pub record CanCheck (net_file : List ℕ) (c : Contents) : Type 0 where
+  pub description : List ℕ
+  pub net_there : map.get c.files net_file ≡ Some description
+  pub net : Net
+  pub described : net_of description ≡ Some net
+  pub programs : All (HasProgram c) net.units
+
 -- The store has FILE. It is within the limit, and its framing has no fault.
 pub record CanShow (framing : Framing) (file : List ℕ) (c : Contents) : Type 0 where
   pub bytes : List ℕ
@@ -136,6 +191,9 @@ pub record IsComplete (words : List (List ℕ)) (status : ℕ) (before after : S
   pub replay : (net_file script_file : List ℕ) → IsReplay words net_file script_file
       → IsSomeAnd before.contents (CanReplay net_file script_file) → IsUnfailed before after
       → (status ≡ 0) ⊎ ((status ≡ 6) ⊎ (status ≡ 1))
+  pub check : (net_file : List ℕ) → IsCheck words net_file
+      → IsSomeAnd before.contents (CanCheck net_file) → IsUnfailed before after
+      → (status ≡ 0) ⊎ (status ≡ 1)
   pub show : (framing : Framing) (file : List ℕ) → IsShow words framing file
       → IsSomeAnd before.contents (CanShow framing file) → IsUnfailed before after
       → (status ≡ 0) ⊎ (status ≡ 1)

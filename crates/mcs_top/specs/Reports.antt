@@ -8,10 +8,13 @@ use Rattle.com_io.specs.Stores.{Shown, output_name, with_output, IsPartWritten, 
 use Rattle.com_tree.specs.declared.build.TreeFault.TheVariants as tree
 use Rattle.com_net.specs.declared.fault.NetKind.{NetKind}
 use Rattle.com_net.specs.declared.fault.NetKind.TheVariants.{NotToml, MissingKey, WrongKind, UnknownKey, BadName, TwiceNamed, BadTree, BadRoute, BadPassword, OverLimit}
+use Rattle.cob_lex.specs.declared.fault.SourceFault.{SourceFault}
+use Rattle.cob_lex.specs.declared.fault.SourceKind.{SourceKind}
+use Rattle.cob_lex.specs.declared.fault.SourceKind.TheVariants as source
 use Rattle.mcs_top.specs.declared.script.Reason.{Reason}
 use Rattle.mcs_top.specs.declared.script.Reason.TheVariants.{Size, Text, NotAllowed}
 use Rattle.mcs_top.specs.declared.report.Refusal.{Refusal}
-use Rattle.mcs_top.specs.declared.report.Refusal.TheVariants.{Usage, Description, Unread, Script, Input}
+use Rattle.mcs_top.specs.declared.report.Refusal.TheVariants.{Usage, Description, Unread, Source, Script, Input}
 use Rattle.mcs_top.specs.declared.report.Failure.{Failure}
 use Rattle.mcs_top.specs.declared.report.Failure.TheVariants.{Refused, Write, Memory}
 
@@ -66,6 +69,34 @@ description_report kind path =
 abbrev pub unreadable_report : List ℕ → List ℕ
 unreadable_report name = codes "cannot read " ++ (name ++ codes "\n")
 
+-- the kind of a source's fault
+abbrev pub source_kind_word : SourceKind → List ℕ
+source_kind_word source.BadCharacter = codes "BadCharacter"
+source_kind_word source.BadColumn = codes "BadColumn"
+source_kind_word source.BadWord = codes "BadWord"
+source_kind_word source.BadPicture = codes "BadPicture"
+source_kind_word source.WantedWord = codes "WantedWord"
+source_kind_word source.TwiceDeclared = codes "TwiceDeclared"
+source_kind_word source.UnknownName = codes "UnknownName"
+source_kind_word source.WrongKind = codes "WrongKind"
+source_kind_word source.WrongLength = codes "WrongLength"
+source_kind_word source.LeavesRange = codes "LeavesRange"
+source_kind_word source.PerformsItself = codes "PerformsItself"
+source_kind_word source.TwoInitial = codes "TwoInitial"
+source_kind_word source.OverLimit = codes "OverLimit"
+
+-- a fault of a source: its line, its column and its kind
+abbrev pub fault_words : SourceFault → List ℕ
+fault_words fault =
+    codes " line "
+    ++ (decimal fault.line
+    ++ (codes " column " ++ (decimal fault.column ++ (codes " " ++ source_kind_word fault.kind))))
+
+-- the fault of the source of a unit
+abbrev pub source_report : List ℕ → SourceFault → List ℕ
+source_report unit fault =
+    codes "source refused: " ++ (unit ++ (fault_words fault ++ codes "\n"))
+
 abbrev pub reason_word : Reason → List ℕ
 reason_word Size = codes "SIZE"
 reason_word Text = codes "TEXT"
@@ -81,6 +112,7 @@ abbrev pub report_of : Refusal → List ℕ
 report_of Usage = usage_report
 report_of (Description fault) = description_report fault.kind fault.path
 report_of (Unread name) = unreadable_report name.now
+report_of (Source unit fault) = source_report unit.now fault
 report_of (Script line reason) = script_report line reason
 report_of (Input text) = text
 
@@ -88,6 +120,7 @@ abbrev pub status_of : Refusal → ℕ
 status_of Usage = 2
 status_of (Description fault) = 3
 status_of (Unread name) = 5
+status_of (Source unit fault) = 4
 status_of (Script line reason) = 8
 status_of (Input text) = 9
 

@@ -3,7 +3,7 @@ use Rattle.std.specs.Prelude.{◌≡◌, ◌≢◌, ℕ, ◌⊎◌, List}
 use Rattle.com_msg.specs.declared.framing.Framing.{Framing}
 use Rattle.com_io.specs.Files.{file_limit, IsRead, IsAbandoned}
 use Rattle.com_io.specs.Stores.{Shown}
-use Rattle.mcs_top.specs.declared.report.Refusal.TheVariants.{Usage, Description, Unread, Script, Input}
+use Rattle.mcs_top.specs.declared.report.Refusal.TheVariants.{Usage, Description, Unread, Source, Script, Input}
 use Rattle.mcs_top.specs.declared.report.Failure.{Failure}
 use Rattle.mcs_top.specs.declared.report.Failure.TheVariants.{Refused, Write, Memory}
 use Rattle.mcs_top.specs.declared.show.Ending.{Ending}
@@ -68,6 +68,7 @@ HasNotShown framing file before after Write = IsShowUnwritten framing file befor
 HasNotShown framing file before after (Refused Usage) = ⊥
 HasNotShown framing file before after (Refused (Description fault)) = ⊥
 HasNotShown framing file before after (Refused (Script line reason)) = ⊥
+HasNotShown framing file before after (Refused (Source unit fault)) = ⊥
 
 -- why a text was not written
 abbrev pub IsUnwrittenFor : List ℕ → Shown → Shown → Failure → Type 0

@@ -3,7 +3,7 @@ use Rattle.std.specs.Prelude.{◌≡◌, ℕ, Bool, not, ◌&&◌, ◌==◌, nat
 use Rattle.com_msg.specs.declared.framing.Framing.{Framing}
 use Rattle.com_msg.specs.declared.framing.Framing.TheVariants.{Marks, Lines}
 use Rattle.mcs_top.specs.declared.command.Command.{Command}
-use Rattle.mcs_top.specs.declared.command.Command.TheVariants.{Replay, Show}
+use Rattle.mcs_top.specs.declared.command.Command.TheVariants.{Replay, Check, Show}
 
 -- a word that names a file: not empty, and not beginning with a hyphen
 abbrev pub is_file_word : List ℕ → Bool
@@ -14,6 +14,11 @@ pub record IsReplay (words : List (List ℕ)) (net_file script_file : List ℕ) 
   pub all : words ≡ codes "replay" ∷ net_file ∷ script_file ∷ []
   pub is_net_file : IsTrue (is_file_word net_file)
   pub is_script_file : IsTrue (is_file_word script_file)
+
+-- The words ask to check NET and the programs that it names.
+pub record IsCheck (words : List (List ℕ)) (net_file : List ℕ) : Type 0 where
+  pub all : words ≡ codes "check" ∷ net_file ∷ []
+  pub is_net_file : IsTrue (is_file_word net_file)
 
 -- how a framing is named
 abbrev pub framing_word : Framing → List ℕ
@@ -28,9 +33,11 @@ pub record IsShow (words : List (List ℕ)) (framing : Framing) (file : List ℕ
 -- The words ask for no command that is built so far.
 pub record IsNoCommand (words : List (List ℕ)) : Type 0 where
   pub replay : (net_file script_file : List ℕ) → IsReplay words net_file script_file → ⊥
+  pub check : (net_file : List ℕ) → IsCheck words net_file → ⊥
   pub show : (framing : Framing) (file : List ℕ) → IsShow words framing file → ⊥
 
 -- the words ask for this command
 abbrev pub IsCommand : List (List ℕ) → Command → Type 0
 IsCommand words (Replay net script) = IsReplay words net.now script.now
+IsCommand words (Check net) = IsCheck words net.now
 IsCommand words (Show framing file) = IsShow words framing file.now

@@ -4,6 +4,8 @@
 //!
 //! - `replay NET SCRIPT`, which reads the description of a network and a script, does the script's calls on
 //!   one thread, and writes the journal, the terminals' transcripts and a summary;
+//! - `check NET`, which reads the description of a network and each COBOL program that it names, and writes
+//!   `ok` or the first fault;
 //! - `show MODE FILE`, which reads a file of terminal input and writes the messages that its framing finds.
 //!
 //! [`mcs`] does the same and is handed what commands with threads and a clock need.
@@ -27,6 +29,7 @@
 //! command is done.
 #![tactic(auto)]
 
+mod check;
 mod command;
 mod ends;
 mod files;

@@ -7,13 +7,13 @@ ghost use Rattle.mcs_top.specs.Running.{IsDoneBy, IsReached};
 ghost use Rattle.mcs_top.specs.Failing.{IsReplayedOn, IsNotReplayedOn, IsWrittenRun, IsUnwrittenRun};
 
 use crate::ends::Verdict;
-use crate::files::read_named;
+use crate::files::{read_named, read_net};
 use crate::outputs::write_outputs;
 use crate::report::{Failure, Refusal};
 use crate::run::Run;
 use crate::script::{ScriptFailure, perform};
 use com_io::{Store, StoreFault};
-use com_net::{Net, NetError};
+use com_net::Net;
 use std::alloc::Global;
 
 /// Reads a description and a script, does the script's calls, and writes the journal of their
@@ -62,23 +62,6 @@ fn write_run<'a, S: Store>(alloc: Global, run: &Run, store: &mut S) -> Result<Ve
         Ok(()) => Ok(run.verdict()),
         Err(StoreFault::Failed) => Err(Failure::Write),
         Err(StoreFault::Memory) => Err(Failure::Memory),
-    }
-}
-
-fn read_net<'a, S: Store>(
-    alloc: Global,
-    net_file: &'a str,
-    store: &mut S,
-) -> Result<Net, Failure<'a>>
-    ensures ok { IfOk result (IsNetRead net_file.now (S.shows store.old) (S.shows store.new)) }
-    ensures err { IfErr result (IsNetFailure net_file.now (S.shows store.old) (S.shows store.new)) }
-    ensures pending { (S.shows store.new).pending ≡ (S.shows store.old).pending }
-{
-    let bytes = read_named(alloc, net_file, store)?;
-    match Net::read(alloc, &bytes) {
-        Ok(net) => Ok(net),
-        Err(NetError::Refused(fault)) => Err(Failure::Refused(Refusal::Description(fault))),
-        Err(NetError::Memory(_)) => Err(Failure::Memory),
     }
 }
 

@@ -1,11 +1,12 @@
 //! Why a command is not done, and the line that it then writes.
-ghost use Rattle.std.specs.Prelude.{◌≡◌, IfOk};
-ghost use Rattle.mcs_top.specs.Reports.{usage_report, description_report, unreadable_report, script_report, net_kind_words, reason_word, report_of, status_of, IsAnswerTo, IsRefusedWith};
+ghost use Rattle.std.specs.Prelude.{◌≡◌, ◌++◌, IfOk, OnOk};
+ghost use Rattle.mcs_top.specs.Reports.{usage_report, description_report, unreadable_report, source_report, fault_words, script_report, net_kind_words, source_kind_word, reason_word, report_of, status_of, IsAnswerTo, IsRefusedWith};
 
 use crate::script::Reason;
+use cob_lex::{SourceFault, SourceKind};
 use com_io::{OUTPUT_NAME, Store, StoreFault};
 use com_net::{NetFault, NetKind};
-use com_text::{Rows, put_number};
+use com_text::{Name, Rows, put_number};
 use com_tree::TreeFault;
 use std::alloc::{AllocError, Global};
 
@@ -27,6 +28,8 @@ pub enum Refusal<'a> {
     Description(NetFault),
     /// The file of this name could not be read.
     Unread(&'a str),
+    /// The source of the unit of this name is refused.
+    Source { unit: &'a Name, fault: SourceFault },
     /// The script is refused at this line, from 1.
     Script { line: u64, reason: Reason },
     /// The input that is shown has a fault. Its report is all that is shown of it.
@@ -38,6 +41,8 @@ const OUT_OF_MEMORY: u8 = 1;
 const USAGE: u8 = 2;
 
 const DESCRIPTION_REFUSED: u8 = 3;
+
+const SOURCE_REFUSED: u8 = 4;
 
 const FILE_UNREAD: u8 = 5;
 
@@ -79,6 +84,7 @@ fn status_of(refusal: &Refusal<'_>) -> u8
         Refusal::Usage => USAGE,
         Refusal::Description(_) => DESCRIPTION_REFUSED,
         Refusal::Unread(_) => FILE_UNREAD,
+        Refusal::Source { .. } => SOURCE_REFUSED,
         Refusal::Script { .. } => SCRIPT_REFUSED,
         Refusal::Input(_) => INPUT_FAULTY,
     }
@@ -91,6 +97,7 @@ fn report_of(alloc: Global, refusal: Refusal<'_>) -> Result<Rows<u8>, AllocError
         Refusal::Usage => usage_report(alloc),
         Refusal::Description(fault) => description_report(alloc, &fault),
         Refusal::Unread(name) => unreadable_report(alloc, name),
+        Refusal::Source { unit, fault } => source_report(alloc, unit, fault),
         Refusal::Script { line, reason } => script_report(alloc, line, reason),
         Refusal::Input(text) => Ok(text),
     }
@@ -128,6 +135,29 @@ fn unreadable_report(alloc: Global, name: &str) -> Result<Rows<u8>, AllocError>
     Ok(out)
 }
 
+fn source_report(alloc: Global, unit: &Name, fault: SourceFault) -> Result<Rows<u8>, AllocError>
+    ensures { IfOk result (λ text. text ≡ source_report unit.now fault) }
+{
+    let mut out = Rows::new(alloc);
+    out.extend_from_slice(b"source refused: ")?;
+    out.extend_from_slice(unit.as_bytes())?;
+    put_fault(&mut out, fault)?;
+    out.extend_from_slice(b"\n")?;
+    Ok(out)
+}
+
+/// Adds the place and the kind of a source's fault.
+fn put_fault(out: &mut Rows<u8>, fault: SourceFault) -> Result<(), AllocError>
+    ensures { OnOk result (out.new ≡ out.old ++ fault_words fault) }
+{
+    out.extend_from_slice(b" line ")?;
+    put_number(out, u64::from(fault.line))?;
+    out.extend_from_slice(b" column ")?;
+    put_number(out, u64::from(fault.column))?;
+    out.extend_from_slice(b" ")?;
+    out.extend_from_slice(source_kind_word(fault.kind))
+}
+
 fn script_report(alloc: Global, line: u64, reason: Reason) -> Result<Rows<u8>, AllocError>
     ensures { IfOk result (λ text. text ≡ script_report line reason) }
 {
@@ -157,6 +187,26 @@ fn net_kind_words(kind: NetKind) -> &'static [u8]
         NetKind::BadRoute => b"BadRoute",
         NetKind::BadPassword => b"BadPassword",
         NetKind::OverLimit => b"OverLimit",
+    }
+}
+
+fn source_kind_word(kind: SourceKind) -> &'static [u8]
+    ensures { result.now ≡ source_kind_word kind }
+{
+    match kind {
+        SourceKind::BadCharacter => b"BadCharacter",
+        SourceKind::BadColumn => b"BadColumn",
+        SourceKind::BadWord => b"BadWord",
+        SourceKind::BadPicture => b"BadPicture",
+        SourceKind::WantedWord => b"WantedWord",
+        SourceKind::TwiceDeclared => b"TwiceDeclared",
+        SourceKind::UnknownName => b"UnknownName",
+        SourceKind::WrongKind => b"WrongKind",
+        SourceKind::WrongLength => b"WrongLength",
+        SourceKind::LeavesRange => b"LeavesRange",
+        SourceKind::PerformsItself => b"PerformsItself",
+        SourceKind::TwoInitial => b"TwoInitial",
+        SourceKind::OverLimit => b"OverLimit",
     }
 }
 

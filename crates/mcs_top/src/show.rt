@@ -2,13 +2,12 @@
 ghost use Rattle.std.specs.Prelude.{◌≡◌, [], ◌∷◌, ◌++◌, IfOk, IfErr, OnOk, take};
 ghost use Rattle.com_text.specs.Counted.{counted_field};
 ghost use Rattle.com_io.specs.Files.{file_limit};
-ghost use Rattle.mcs_top.specs.Reports.{IsWritten};
 ghost use Rattle.mcs_top.specs.Show.{EndsSo, IsShowOf, ending_line, message_heading, message_line, message_lines, segment_fields};
-ghost use Rattle.mcs_top.specs.Showing.{HasShown, HasNotShown, IsUnwrittenFor};
+ghost use Rattle.mcs_top.specs.Showing.{HasShown, HasNotShown};
 
-use crate::files::read_named;
+use crate::files::{read_named, write_output};
 use crate::report::{Failure, Refusal};
-use com_io::{FILE_LIMIT, OUTPUT_NAME, Store, StoreFault};
+use com_io::{FILE_LIMIT, Store};
 use com_journal::{end_word, frame_word};
 use com_lines::{FeedError, Framer};
 use com_msg::{FrameFault, Framing, RawMessage};
@@ -41,22 +40,9 @@ pub fn show<'a, S: Store>(
 {
     let input = read_named(alloc, file, store)?;
     match text_of(alloc, framing, &input) {
-        Ok((Ending::End, text)) => write(&text, store),
+        Ok((Ending::End, text)) => write_output(text.as_slice(), store),
         Ok((_, text)) => Err(Failure::Refused(Refusal::Input(text))),
         Err(_) => Err(Failure::Memory),
-    }
-}
-
-/// Writes what is shown.
-fn write<'a, S: Store>(text: &Rows<u8>, store: &mut S) -> Result<(), Failure<'a>>
-    ensures ok { OnOk result (IsWritten (S.shows store.new) (S.shows store.old) text.now) }
-    ensures err { IfErr result (IsUnwrittenFor text.now (S.shows store.old) (S.shows store.new)) }
-    ensures pending { (S.shows store.new).pending ≡ (S.shows store.old).pending }
-{
-    match store.write(OUTPUT_NAME, text.as_slice()) {
-        Ok(()) => Ok(()),
-        Err(StoreFault::Failed) => Err(Failure::Write),
-        Err(StoreFault::Memory) => Err(Failure::Memory),
     }
 }
 
