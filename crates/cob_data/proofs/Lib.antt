@@ -27,3 +27,16 @@ pub mod CountedLaws
 mod WorkedLevels
 mod WorkedHeaders
 mod WorkedLimits
+mod ReadSteps
+mod Sentences
+mod OutputClauses
+mod RightItems
+pub mod Tests
+pub mod LiteralTexts
+pub mod EntryShapes
+pub mod DivisionShapes
+pub mod RightRecords
+pub mod RightPlaces
+pub mod OpeningAreas
+pub mod RightRuns
+pub mod TableNumbers

@@ -13,6 +13,8 @@ pub mod RangeFaults
 pub mod Readable
 mod Replies
 pub mod SmallPrograms
+mod SoundAreas
+mod SoundLayouts
 mod SoundTokens
 mod Steady
 mod Stored

@@ -1,22 +1,20 @@
 -- The numbers and literals among the tokens of a source have their sizes.
-use Rattle.std.proofs.Common.{◌≡◌, ◌≤◌, ℕ, zero, suc, ◌-◌, Bool, true, false, ◌&&◌, nat_le, List, [], ◌∷◌, ◌++◌, length, take, drop, Ok, refl, ap, ◌∙◌, arith, length-append}
+use Rattle.std.proofs.Common.{◌≡◌, ◌≤◌, ℕ, zero, suc, ◌-◌, true, nat_le, List, [], ◌∷◌, ◌++◌, length, take, drop, Ok, refl, ap, ◌∙◌, arith, length-append}
 use Rattle.std.specs.List.{AllByRecursion, list_all}
-use Rattle.std.specs.Prelude.{if◌then◌else◌}
 use Rattle.std.proofs.lemmas.Bool.{and_parts}
 use Rattle.std.proofs.lemmas.Bool.Decides.{nat_tests}
-use Rattle.com_text.specs.Text.{IsText, is_text_byte}
-use Rattle.com_text.proofs.Texts.{IsText-take, IsText-drop}
+use Rattle.com_text.specs.Text.{IsText}
 use Rattle.cob_lex.specs.declared.token.Token.{Token}
 use Rattle.cob_lex.specs.declared.token.TokenKind.{TokenKind}
 use Rattle.cob_lex.specs.declared.token.TokenKind.TheVariants as tokens
 use Rattle.com_text.specs.Name.{is_digit}
-use Rattle.cob_lex.specs.Characters.{is_quote}
 use Rattle.cob_lex.specs.Fronts.{is_number}
 use Rattle.cob_lex.specs.Lexing.{tokens_of}
 use Rattle.cob_lex.specs.Literals.{characters_of, is_literal}
 use Rattle.cob_lex.proofs.TokenSizes.{IsMarked, IsSized, IsSizedToken, tokens_sized}
 use Rattle.cob_forms.specs.Sorts.{is, kind_code, of_kind}
 use Rattle.cob_forms.specs.Written.{between_marks}
+use Rattle.cob_data.proofs.LiteralTexts.{between_text, characters_text}
 use Rattle.cob_data.proofs.NumeralLaws.{all_digits}
 use Rattle.cob_meaning.specs.Checked.{IsNumeral, IsQuotation}
 
@@ -33,23 +31,6 @@ number_sound : (text : List ℕ) → 1 ≤ length text → is_number text ≡ tr
 number_sound text some e = let h = and_parts (list_all is_digit text) (nat_le (length text) 18) e in
     record { some = some; few = grind (arith, nat_tests); are_digits = all_digits text h.0 }
 
--- the characters of a literal are a text
-characters_text : (inside : List ℕ) → IsText inside → IsText (characters_of inside)
-characters_text [] h = h
-characters_text (byte ∷ []) h = h
-characters_text (byte ∷ next ∷ rest) h =
-    let one = and_parts (is_text_byte byte) (is_text_byte next && list_all is_text_byte rest) h in
-    let two = and_parts (is_text_byte next) (list_all is_text_byte rest) one.1 in
-    by (is_quote byte && is_quote next) one.0 (characters_text rest two.1) (characters_text (next ∷ rest) one.1)
-  where
-    with_byte : (others : List ℕ) → is_text_byte byte ≡ true → IsText others → IsText (byte ∷ others)
-    with_byte others b t = rw b t
-
-    by : (b : Bool) → is_text_byte byte ≡ true → IsText (characters_of rest) → IsText (characters_of (next ∷ rest))
-        → IsText (if b then byte ∷ characters_of rest else byte ∷ characters_of (next ∷ rest))
-    by true here s t = with_byte (characters_of rest) here s
-    by false here s t = with_byte (characters_of (next ∷ rest)) here t
-
 take_all : (xs ys : List ℕ) → take (length xs) (xs ++ ys) ≡ xs
 take_all [] ys = refl
 take_all (x ∷ xs) ys = ap (λ l. x ∷ l) (take_all xs ys)
@@ -58,9 +39,6 @@ between : (inside : List ℕ) → between_marks (0x22 ∷ (inside ++ 0x22 ∷ []
 between inside =
     let n : length (0x22 ∷ (inside ++ 0x22 ∷ [])) - 2 ≡ length inside = omega (arith, length-append inside (0x22 ∷ [])) in
     ap (λ k. take k (inside ++ 0x22 ∷ [])) n ∙ take_all inside (0x22 ∷ [])
-
-between_text : (text : List ℕ) → IsText text → IsText (between_marks text)
-between_text text h = IsText-take (length text - 2) (drop 1 text) (IsText-drop 1 text h)
 
 literal_sound : (text : List ℕ) → IsText text → IsMarked text → IsQuotation (characters_of (between_marks text))
 literal_sound text h q =

@@ -176,6 +176,22 @@ pub fn programs_are_checked()
         IsCheckedText program.layout program.text }
 {}
 
+/// The layout of each program of a source is sound: an item has 1 to 2,000 characters, a numeric one
+/// at most 18, and all of its occurrences are in its area; the area of a CD is an input or output
+/// area, and each area begins as a text.
+pub fn sources_have_sound_layouts()
+    ensures { (source : List ℕ) (program : Program) → IsProgramOf source program →
+        IsSound program.layout }
+{}
+
+/// So the calls of such a program are well formed, if the replies fit them.
+pub fn calls_of_sources_are_well_formed()
+    ensures { (source : List ℕ) (program : Program) (names : Option (List ℕ))
+        (replies : List ReplyOf) → IsProgramOf source program → IfSome names AreNames →
+        AreFit (meaning program names replies).calls replies →
+        AreWellFormed (meaning program names replies) }
+{}
+
 /// A unit begins at most a million statements and turns, and has at most 10,000 verbs answered.
 pub fn units_have_limits()
     ensures statements { unit_limits.statements ≡ 1000000 }

@@ -7,7 +7,8 @@
 //!
 //! `specs/Sources.antt` says which program a source is (`IsProgramOf`) and which fault it has
 //! (`IsSourceFaultOf`), over all passes. Each source is one of both, and never both.
-//! `specs/Checked.antt` says what the text of such a program is.
+//! `specs/Checked.antt` says what the text of such a program is, and `specs/Sound.antt` what its
+//! layout is.
 //!
 //! ```text
 //! meaning echo None []                        its RECEIVE is wanted
