@@ -1,0 +1,10 @@
+pub mod Numbered
+pub mod Turning
+pub mod Copying
+pub mod Staying
+pub mod Making
+pub mod Waiting
+pub mod Starting
+pub mod Receiving
+pub mod Arriving
+pub mod Closing

@@ -1,0 +1,4 @@
+pub mod Parties
+pub mod Passes
+pub mod Waits
+pub mod inner
