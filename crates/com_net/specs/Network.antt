@@ -9,12 +9,12 @@ use Rattle.com_tree.specs.Written.{IsWritten, leaf_count, top_count, has_name}
 use Rattle.com_net.specs.declared.net.Terminal.{Terminal}
 use Rattle.com_net.specs.declared.net.UnitRow.{UnitRow}
 use Rattle.com_net.specs.declared.net.Net.{Net}
-use Rattle.com_net.specs.declared.net.TheConstants.{MAX_TERMINALS, MAX_UNITS}
+use Rattle.com_net.specs.declared.net.TheConstants.{MAX_PASSWORD_LENGTH, MAX_TERMINALS, MAX_UNITS}
 
--- one to ten characters of a text, the last no space
+-- characters of a text, at least one and at most as many as a password has, the last no space
 abbrev pub is_password : List ℕ → Bool
 is_password text =
-    ((nat_le 1 (length text) && nat_le (length text) 10) && is_text text)
+    ((nat_le 1 (length text) && nat_le (length text) MAX_PASSWORD_LENGTH) && is_text text)
     && not (slice_index text (length text - 1) == 32)
 
 -- a to z

@@ -44,5 +44,5 @@ pub use laws::{
     a_description_gives_a_network_or_a_fault, a_description_is_too_long_by_its_length_alone,
     a_document_without_a_fault_gives_a_network,
 };
-pub use net::{Feed, MAX_TERMINALS, MAX_UNITS, Net, Terminal, UnitRow};
+pub use net::{Feed, MAX_PASSWORD_LENGTH, MAX_TERMINALS, MAX_UNITS, Net, Terminal, UnitRow};
 pub use numbers::a_name_has_its_place;

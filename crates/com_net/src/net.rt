@@ -18,6 +18,9 @@ pub const MAX_TERMINALS: usize = 32;
 /// How many run units a network has at most.
 pub const MAX_UNITS: usize = 16;
 
+/// How many characters a password has at most.
+pub const MAX_PASSWORD_LENGTH: usize = 10;
+
 /// Where a terminal's messages come from and go to.
 #[derive(Debug, Drop)]
 pub struct Feed {
