@@ -1,18 +1,18 @@
 -- The entries up to one of a terminal's own.
-use Rattle.std.proofs.Common.{◌≡◌, ◌⊎◌, inl, inr, ℕ, List, [], ◌∷◌, ◌++◌, None, refl, sym, ap, subst, ◌∙◌, append_assoc}
-use Rattle.std.specs.Prelude.{All, IsFalse}
+use Rattle.std.proofs.Common.{◌≡◌, ◌⊎◌, inl, inr, ℕ, List, [], ◌∷◌, ◌++◌, refl, ap, subst, ◌∙◌}
+use Rattle.std.specs.Prelude.{Option}
 use Rattle.std.proofs.lemmas.Grind.{flat_map-append}
 use Rattle.std.proofs.lemmas.List.{append-nil}
-use Rattle.com_msg.specs.declared.message.RawMessage.{RawMessage}
 use Rattle.com_msg.specs.declared.framing.Framing.{Framing}
 use Rattle.com_events.specs.declared.call.Party.{Party}
 use Rattle.com_events.specs.declared.call.EndReason.{EndReason}
 use Rattle.com_events.specs.declared.call.EndReason.TheVariants as finish
 use Rattle.com_events.specs.declared.entry.Entry.{Entry}
-use Rattle.com_events.specs.Fronts.{IsPrefixOf}
-use Rattle.com_feed.specs.Fed.{AreFed, Fed, FedSoFar, Gives, arrivals_of, finished, is_end, message_of}
+use Rattle.com_feed.specs.Fed.{AreFed, AreFirst, Fed, FedSoFar, HasNoEnd, arrivals_of, finished, message_of}
+use Rattle.com_feed.proofs.Wholes.{first-front, first-given}
 
-arrivals-append : (xs ys : List Entry) → arrivals_of (xs ++ ys) ≡ arrivals_of xs ++ arrivals_of ys
+-- what arrives in some entries and then in others
+pub arrivals-append : (xs ys : List Entry) → arrivals_of (xs ++ ys) ≡ arrivals_of xs ++ arrivals_of ys
 arrivals-append xs ys = flat_map-append (λ (entry : Entry). message_of entry.call) xs ys
 
 abbrev tail : List Entry → List Entry
@@ -36,33 +36,28 @@ before_last (f ∷ front) rest (b ∷ before) last e =
     by (inl none) first = inl none
     by (inr more) first = inr (more.0, let m = more.1 in cc)
 
-prefix_then : (xs more : List Entry) (all : List RawMessage) → IsPrefixOf (arrivals_of (xs ++ more)) all → IsPrefixOf (arrivals_of xs) all
-prefix_then xs more all h =
-    (arrivals_of more ++ h.0, h.1 ∙ ap (λ l. l ++ h.0) (arrivals-append xs more) ∙ append_assoc (arrivals_of xs) (arrivals_of more) h.0)
+module _ (party : Party) (framing : Framing) (bytes : List ℕ) (lost : Option (List ℕ)) where
+  -- what has arrived by the end comes first
+  first : (reason : EndReason) (before : List Entry) → AreFed party framing bytes lost reason before → AreFirst framing bytes (arrivals_of before)
+  first finish.End before h = first-given framing bytes lost finish.End (arrivals_of before) h
+  first (finish.Frame fault) before h = first-given framing bytes lost (finish.Frame fault) (arrivals_of before) h
+  first finish.Long before h = first-given framing bytes lost finish.Long (arrivals_of before) h
+  first finish.Fault before h = first-given framing bytes lost finish.Fault (arrivals_of before) h
+  first finish.Idle before h =
+      let all = first-given framing bytes lost h.reason h.all h.gives in
+      first-front framing bytes (arrivals_of before) h.missing.0 (subst (λ l. AreFirst framing bytes l) h.missing.1 all)
 
-all_of_it : (ms : List RawMessage) → IsPrefixOf ms ms
-all_of_it ms = ([], sym (append-nil ms))
-
-module _ (party : Party) (framing : Framing) (bytes : List ℕ) where
-  -- what has arrived by the end, and what gives it
-  record Given (before : List Entry) : Type 0 where
-    reason : EndReason
-    all : List RawMessage
-    gives : Gives framing bytes None reason all
-    arrivals : IsPrefixOf (arrivals_of before) all
-
-  given : (reason : EndReason) (before : List Entry) → AreFed party framing bytes None reason before → Given before
-  given finish.End before h = record { reason = finish.End; all = arrivals_of before; gives = h; arrivals = all_of_it (arrivals_of before) }
-  given (finish.Frame fault) before h = record { reason = finish.Frame fault; all = arrivals_of before; gives = h; arrivals = all_of_it (arrivals_of before) }
-  given finish.Long before h = record { reason = finish.Long; all = arrivals_of before; gives = h; arrivals = all_of_it (arrivals_of before) }
-  given finish.Fault before h = absurd h
-  given finish.Idle before h = record { reason = h.reason; all = h.all; gives = h.gives; arrivals = (h.missing.0, h.missing.1) }
-
-  pub front_so_far : (front rest : List Entry) → Fed party framing bytes None (front ++ rest) → All (λ (entry : Entry). IsFalse (is_end entry.call)) front → FedSoFar party framing bytes None front
+  pub front_so_far : (front rest : List Entry) → Fed party framing bytes lost (front ++ rest) → HasNoEnd front → FedSoFar party framing bytes lost front
   front_so_far front rest h no_end = by (before_last front rest h.before (finished party h.reason) h.ended)
     where
-      by : (rest ≡ []) ⊎ ((more : List Entry) × (h.before ≡ front ++ more)) → FedSoFar party framing bytes None front
-      by (inl none) = inl (subst (λ l. Fed party framing bytes None l) (ap (λ l. front ++ l) none ∙ append-nil front) h)
+      by : (rest ≡ []) ⊎ ((more : List Entry) × (h.before ≡ front ++ more)) → FedSoFar party framing bytes lost front
+      by (inl none) = inl (subst (λ l. Fed party framing bytes lost l) (ap (λ l. front ++ l) none ∙ append-nil front) h)
       by (inr more) =
-          let g = given h.reason h.before h.are_fed in
-          inr (record { no_end = no_end; reason = g.reason; all = g.all; gives = g.gives; arrivals = prefix_then front more.0 g.all (subst (λ l. IsPrefixOf (arrivals_of l) g.all) more.1 g.arrivals) })
+          let arrived : arrivals_of h.before ≡ arrivals_of front ++ arrivals_of more.0 = ap arrivals_of more.1 ∙ arrivals-append front more.0 in
+          inr (record { no_end = no_end; arrivals = first-front framing bytes (arrivals_of front) (arrivals_of more.0) (subst (λ l. AreFirst framing bytes l) arrived (first h.reason h.before h.are_fed)) })
+
+  -- what is fed at some time was fed before
+  pub earlier_so_far : (front rest : List Entry) → FedSoFar party framing bytes lost (front ++ rest) → HasNoEnd front → FedSoFar party framing bytes lost front
+  earlier_so_far front rest (inl h) no_end = front_so_far front rest h no_end
+  earlier_so_far front rest (inr h) no_end =
+      inr (record { no_end = no_end; arrivals = first-front framing bytes (arrivals_of front) (arrivals_of rest) (subst (λ l. AreFirst framing bytes l) (arrivals-append front rest) h.arrivals) })

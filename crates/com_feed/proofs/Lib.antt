@@ -1,3 +1,7 @@
+mod Messages
+mod Wholes
+mod Steps
+mod Nothing
 mod Ends
 mod Fronts
 mod WorkedFeeds

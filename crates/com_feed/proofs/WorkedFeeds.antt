@@ -1,5 +1,5 @@
 -- A terminal whose input ends in the middle of a message, worked out by hand.
-use Rattle.std.proofs.lemmas.List.{length-take}
+use Rattle.std.proofs.lemmas.List.{length-take, take_all}
 use Rattle.std.proofs.Common.{◌≡◌, ◌≤◌, inl, inr, ℕ, zero, suc, List, [], ◌∷◌, ◌++◌, length, Some, None, refl, sym, ap, subst, ◌∙◌, codes, arith, length-append}
 use Rattle.std.proofs.lemmas.List.Elements.{All-cons, All-nil}
 use Rattle.std.specs.Prelude.{IsFalse}
@@ -21,6 +21,7 @@ use Rattle.com_events.specs.declared.entry.Entry.{Entry}
 use Rattle.com_events.specs.declared.call.EndReason.{EndReason}
 use Rattle.com_feed.specs.Fed.{AreFed, Fed, FedSoFar, Gives, finished, held, is_end}
 use Rattle.com_feed.proofs.Ends.{gives-unique}
+use Rattle.com_feed.proofs.Fronts.{earlier_so_far}
 
 -- AB and its end, an LF, and CD without an end
 abbrev input : List ℕ
@@ -48,8 +49,8 @@ given : Gives Marks input None (finish.Frame fault) (ab ∷ [])
 given = inl (omega arith, (inr (record { at_end = refl; kind = refl; clear = clear }), record { framed = All-cons (IsFramed Marks) ab [] framed (All-nil (IsFramed Marks)); spelled = refl }))
 
 -- A source that failed gave no more than is looked at
-given_is_looked_at : (framing : Framing) (bytes gone : List ℕ) (messages : List RawMessage) → Gives framing bytes (Some gone) finish.Fault messages → length gone ≤ file_limit
-given_is_looked_at framing bytes gone messages h = omega (arith, ap length h.front.1, length-append gone h.front.0, length-take file_limit bytes)
+given_is_looked_at : (framing : Framing) (bytes given : List ℕ) (messages : List RawMessage) → Gives framing bytes (Some given) finish.Fault messages → length given ≤ file_limit
+given_is_looked_at framing bytes given messages h = omega (arith, ap length h.front.1, length-append given h.front.0, length-take file_limit bytes)
 
 -- and where a fault of the framing is settled in what it gave, that fault is told: here A, and a byte that is none
 abbrev bad : List ℕ
@@ -64,6 +65,25 @@ clear_before (suc i) lt within = let never : ⊥ = omega arith in absurd never
 
 settled_is_told : (messages : List RawMessage) → Gives Marks bad (Some bad) finish.Fault messages → ⊥
 settled_is_told messages h = h.unsettled bad_byte (record { first_fault = record { within = omega arith; kind = refl; first = clear_before }; settled = omega arith })
+
+-- its source fails after the C
+abbrev gone : List ℕ
+gone = 0x41 ∷ 0x42 ∷ 3 ∷ 10 ∷ 0x43 ∷ []
+
+gone_clear : IsClear Marks gone 5
+gone_clear zero lt within = refl
+gone_clear (suc zero) lt within = refl
+gone_clear (suc (suc zero)) lt within = refl
+gone_clear (suc (suc (suc zero))) lt within = refl
+gone_clear (suc (suc (suc (suc zero)))) lt within = refl
+gone_clear (suc (suc (suc (suc (suc i))))) lt within = let never : ⊥ = omega arith in absurd never
+
+gone_given : Gives Marks input (Some gone) finish.Fault (ab ∷ [])
+gone_given = record {
+  front = (0x44 ∷ [], take_all file_limit input (omega arith));
+  unsettled = λ fault h. let none = gone_clear fault.at h.first_fault.within h.first_fault.within in let kind = h.first_fault.kind in absurd cc;
+  ended = inl (gone_clear, record { framed = All-cons (IsFramed Marks) ab [] framed (All-nil (IsFramed Marks)); spelled = refl });
+}
 
 module _ (party : Party) (stamp : Moment) where
   abbrev arrives : Entry
@@ -82,9 +102,17 @@ module _ (party : Party) (stamp : Moment) where
     are_fed = record { reason = finish.Frame fault; all = ab ∷ []; gives = given; missing = (ab ∷ [], refl, λ e. cc e); earlier = []; held = refl };
   }
 
+  -- where its source fails it arrives too, and the terminal ends with FAULT
+  failed : Fed party Marks input (Some gone) (arrives ∷ finished party finish.Fault ∷ [])
+  failed = record { before = arrives ∷ []; reason = finish.Fault; ended = refl; are_fed = gone_given }
+
+  -- and before that it is fed so far
+  failing : FedSoFar party Marks input (Some gone) (arrives ∷ [])
+  failing = earlier_so_far party Marks input (Some gone) (arrives ∷ []) (finished party finish.Fault ∷ []) (inl failed) (All-cons (λ (entry : Entry). IsFalse (is_end entry.call)) arrives [] refl (All-nil (λ (entry : Entry). IsFalse (is_end entry.call))))
+
   -- before the end, the message has arrived or not
   at_first : FedSoFar party Marks input None []
-  at_first = inr (record { no_end = All-nil (λ (entry : Entry). IsFalse (is_end entry.call)); reason = finish.Frame fault; all = ab ∷ []; gives = given; arrivals = (ab ∷ [], refl) })
+  at_first = inr (record { no_end = All-nil (λ (entry : Entry). IsFalse (is_end entry.call)); arrivals = record { reason = finish.Frame fault; all = ab ∷ []; gives = given; prefix = (ab ∷ [], refl) } })
 
   same_parts : (xs ys : List Entry) (a b : Entry) → xs ++ a ∷ [] ≡ ys ++ b ∷ [] → (xs ≡ ys) × (a ≡ b)
   same_parts [] [] a b h = (refl, cc)

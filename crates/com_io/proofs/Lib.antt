@@ -1,3 +1,4 @@
+mod CivilDays
 mod Counting
 mod NamedLemmas
 mod ReadLemmas

@@ -1,4 +1,5 @@
 pub mod Adapter
+pub mod Civil
 pub mod Codes
 pub mod Faults
 pub mod Files

@@ -21,18 +21,22 @@
 #![tactic(auto)]
 
 mod adapter;
+mod civil;
 mod clock;
 mod dir_source;
 mod dir_store;
 mod files;
+pub mod laws;
 pub mod limits;
 mod memory_source;
 mod memory_store;
 mod named;
 mod source;
 mod store;
+mod utc_clock;
 
 pub use adapter::OUTPUT_NAME;
+pub use civil::stamp_of;
 pub use clock::{Clock, FixedClock};
 pub use dir_source::DirSource;
 pub use dir_store::DirStore;
@@ -41,3 +45,4 @@ pub use memory_source::MemorySource;
 pub use memory_store::MemoryStore;
 pub use source::{Failed, Source};
 pub use store::{Store, StoreFault};
+pub use utc_clock::UtcClock;

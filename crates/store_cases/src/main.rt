@@ -1,14 +1,16 @@
-//! Cases of stores, sources and clocks in memory. Each line of `stdin` is a call with its
+//! Cases of stores, sources and clocks. Each line of `stdin` is a call with its
 //! arguments, and `stdout` has what it is to answer. `store` begins anew with an empty store.
 #![tactic(auto)]
 
 mod calls;
+mod clocks;
 mod sources;
 
 use calls::{fail_open, fail_read, fail_write, out, put, write};
 use case_lines::{Cases, Words, answer_cases, unknown_call};
+use clocks::{moment, stamp, utc};
 use com_io::MemoryStore;
-use sources::{moment, open, read, source};
+use sources::{open, read, source};
 use std::alloc::{AllocError, Global};
 use std::io;
 
@@ -45,6 +47,8 @@ impl Storing {
             b"out" => out(self.alloc, &self.store, words),
             b"source" => source(self.alloc, words),
             b"FixedClock" => moment(self.alloc, words),
+            b"stamp_of" => stamp(self.alloc, words),
+            b"UtcClock" => utc(self.alloc, words),
             _ => unknown_call(self.alloc),
         }
     }

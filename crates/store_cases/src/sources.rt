@@ -1,8 +1,7 @@
-//! Reading, and what time it is.
+//! Reading.
 use crate::calls::name_of;
 use case_lines::{Quoted, Words};
-use com_io::{Clock, FixedClock, MemorySource, MemoryStore, Source, Store, read_file};
-use com_msg::Stamp;
+use com_io::{MemorySource, MemoryStore, Source, Store, read_file};
 use std::alloc::{AllocError, Global};
 
 /// Opens a file by its name, reads as often as there are sizes, and closes it.
@@ -73,22 +72,4 @@ pub fn read(
         Ok(bytes) => format!(in alloc; "{}", Quoted(&bytes)),
         Err(fault) => format!(in alloc; "{fault:?}"),
     }
-}
-
-/// The moment of a clock: its date and time.
-pub fn moment(alloc: Global, words: &mut Words<'_>) -> Result<String, AllocError> {
-    let (date, time) = (words.bytes(), words.bytes());
-    let (Some(date), Some(time)) = (date.first_chunk(), time.first_chunk()) else {
-        return String::from_str(alloc, "too short");
-    };
-    match Stamp::new(date, time) {
-        Some(stamp) => now_of(alloc, &FixedClock { stamp }),
-        None => String::from_str(alloc, "no stamp"),
-    }
-}
-
-/// The date and time of a moment of any clock.
-fn now_of<C: Clock>(alloc: Global, clock: &C) -> Result<String, AllocError> {
-    let stamp = clock.now();
-    format!(in alloc; "{} {}", Quoted(stamp.date()), Quoted(stamp.time()))
 }
