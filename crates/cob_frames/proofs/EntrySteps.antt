@@ -11,7 +11,7 @@ use Rattle.com_events.specs.declared.call.StopReason.TheVariants as reason
 use Rattle.com_events.specs.declared.entry.Entry.{Entry}
 use Rattle.com_events.specs.declared.reply.Reply.{Reply}
 use Rattle.cob_meaning.specs.Meaning.{Ending, Meaning, Stopped, Wants, Program, meaning}
-use Rattle.cob_meaning.specs.Follows.{AreVerbs, Follows, SoFar, answers_of, calls_of, replies_of, is_verb, is_waiting, started, stopped, waits}
+use Rattle.cob_meaning.specs.Follows.{AreVerbs, Follows, SoFar, answers_of, calls_of, replies_of, is_receive, is_verb, is_waiting, started, stopped, waits}
 use Rattle.com_events.specs.Fronts.{IsPrefixOf}
 use Rattle.cob_meaning.specs.Laws.{GoesOn, GoesOnFrom, Takes, TakesFrom}
 use Rattle.cob_frames.specs.Entries.{AreOwnEntries, answered_entry}
@@ -160,8 +160,8 @@ module _ (party : Party) (program : Program) (names : Option (List ℕ)) where
           };
         })
 
-    -- STOP IDLE after a verb that waits
-    pub stops_idle : (before : List Entry) (call : Call) → is_verb call ≡ true
+    -- STOP IDLE after a RECEIVE that waits
+    pub stops_idle : (before : List Entry) (call : Call) → is_receive call ≡ true
         → entries ≡ started party names ∷ before ++ waits party call ∷ []
         → Follows party program (entries ++ stopped party reason.Idle ∷ [])
     stops_idle before call is at =

@@ -31,7 +31,16 @@ ghost use Rattle.cob_meaning.specs.Meaning.{
   unit_limits,
   until,
 };
-ghost use Rattle.cob_meaning.specs.Follows.{Follows, SoFar, is_verb, is_waiting, started, stopped, waits};
+ghost use Rattle.cob_meaning.specs.Follows.{
+  Follows,
+  SoFar,
+  is_receive,
+  is_verb,
+  is_waiting,
+  started,
+  stopped,
+  waits,
+};
 ghost use Rattle.cob_frames.specs.Frames.{Frame, frames_after_go, frames_do, program_does, whole_text};
 ghost use Rattle.cob_frames.specs.Units.{
   HasStopped,
@@ -171,7 +180,7 @@ pub fn stops_follow()
 pub fn idle_stops_follow()
     ensures { (party : PartyOf) (program : Program) (names : Option (List ℕ))
         (replies : List ReplyOf) (entries before : List EntryOf) (call : CallOf) →
-        AreOwnEntries party program names replies entries → is_verb call ≡ true →
+        AreOwnEntries party program names replies entries → is_receive call ≡ true →
         entries ≡ started party names ∷ before ++ waits party call ∷ [] →
         Follows party program (entries ++ stopped party reason.Idle ∷ []) }
 {}

@@ -9,7 +9,7 @@ use Rattle.com_events.specs.declared.call.Party.{Party}
 use Rattle.com_events.specs.declared.call.StopReason.{StopReason}
 use Rattle.com_events.specs.declared.call.StopReason.TheVariants as reason
 use Rattle.com_events.specs.declared.entry.Entry.{Entry}
-use Rattle.cob_meaning.specs.Follows.{AreVerbs, AsksAgain, ComesAfter, IsRunning, Makes, SoFar, StopsByItself, StopsWaiting, WaitsAtLast, calls_of, is_verb, is_waiting, replies_of, started, stopped, waits}
+use Rattle.cob_meaning.specs.Follows.{AreVerbs, AsksAgain, ComesAfter, IsRunning, Makes, SoFar, StopsByItself, StopsWaiting, WaitsAtLast, calls_of, is_receive, is_verb, is_waiting, replies_of, started, stopped, waits}
 use Rattle.cob_meaning.specs.Laws.{GoesOn, GoesOnFrom}
 use Rattle.cob_meaning.specs.Meaning.{Ending, Stopped, Wants, Meaning, Program, meaning, unit_limits}
 use Rattle.cob_meaning.proofs.NeverIdle.{NotIdle, never_idle}
@@ -55,6 +55,18 @@ same_next a x y b c e = heads (append_cancel_left a _ _ e)
 
 no_stop : (call : Call) (r : StopReason) → is_verb call ≡ true → calls.Stop r ≡ call → ⊥
 no_stop call r verb e = true≢false (sym verb ∙ ap is_verb (sym e))
+
+receive_is_verb : (call : Call) → is_receive call ≡ true → is_verb call ≡ true
+receive_is_verb (calls.Receive area kind size no_data) e = refl
+receive_is_verb (calls.Count _) e = refl
+receive_is_verb (calls.Send _ _ _) e = refl
+receive_is_verb (calls.SwitchInput _ _ _ _) e = refl
+receive_is_verb (calls.SwitchOutput _ _ _) e = refl
+receive_is_verb calls.Start e = e
+receive_is_verb (calls.Arrive _ _) e = e
+receive_is_verb calls.Held e = e
+receive_is_verb (calls.Stop _) e = e
+receive_is_verb (calls.Finish _) e = e
 
 module _ (party : Party) (program : Program) (names : Option (List ℕ)) where
   abbrev does : List Entry → Meaning
@@ -188,7 +200,7 @@ module _ (party : Party) (program : Program) (names : Option (List ℕ)) (verbs 
       by (inl h) = inside front h.0 h.1
       by (inr h) = outside h.0 rest h.1 h.2
 
-  waits_front : (call : Call) → is_verb call ≡ true → Makes program names verbs (Wants call) → AsksAgain (verbs ++ last_two party call)
+  waits_front : (call : Call) → is_receive call ≡ true → Makes program names verbs (Wants call) → AsksAgain (verbs ++ last_two party call)
       → (front rest : List Entry) → front ++ rest ≡ verbs ++ last_two party call → SoFar party program (started party names ∷ front)
   waits_front call receives makes again front rest e = by (cut front rest verbs (last_two party call) e)
     where
@@ -197,7 +209,7 @@ module _ (party : Party) (program : Program) (names : Option (List ℕ)) (verbs 
         where
           stop : ComesAfter (waits party other) (waits party call) → ⊥
           stop (inl h) = true≢false h.1
-          stop (inr h) = no_stop call reason.Idle receives (sym h)
+          stop (inr h) = no_stop call reason.Idle (receive_is_verb call receives) (sym h)
 
       inside : (front more : List Entry) → verbs ≡ front ++ more → SoFar party program (started party names ∷ front)
       inside = front_of_verbs party program names verbs are (asks_front verbs (last_two party call) again) makes.calls (λ other last. absurd (never other last.0 last.1))
@@ -229,7 +241,7 @@ module _ (party : Party) (program : Program) (names : Option (List ℕ)) (verbs 
             names = names;
             verbs = verbs ++ waits party call ∷ [];
             entries_are = refl;
-            are_verbs = list_all-append (λ (entry : Entry). is_verb entry.call) verbs (waits party call ∷ []) ∙ and_from _ _ are (and_from _ _ receives refl);
+            are_verbs = list_all-append (λ (entry : Entry). is_verb entry.call) verbs (waits party call ∷ []) ∙ and_from _ _ are (and_from _ _ (receive_is_verb call receives) refl);
             calls = ap (λ r. (meaning program names r).calls) same_replies ∙ makes.calls ∙ sym same_calls;
             waiting = λ other last. ap (λ r. (meaning program names r).ending) same_replies ∙ makes.comes_to ∙ ap Wants (same_end other last.0 last.1);
           }

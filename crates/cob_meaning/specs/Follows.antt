@@ -20,6 +20,11 @@ is_verb (SwitchInput on terminal area key) = true
 is_verb (SwitchOutput on area key) = true
 is_verb _ = false
 
+-- whether a call is a RECEIVE, the one verb that may wait
+abbrev pub is_receive : Call → Bool
+is_receive (Receive area kind size no_data) = true
+is_receive _ = false
+
 -- whether a reply is that the call waits
 abbrev pub is_waiting : Reply → Bool
 is_waiting Waits = true
@@ -77,7 +82,7 @@ pub record StopsWaiting (party : Party) (program : Program) (entries : List Entr
   pub entries_are : entries
       ≡ started party names ∷ verbs ++ waits party call ∷ stopped party reason.Idle ∷ []
   pub are_verbs : AreVerbs verbs
-  pub receives : IsTrue (is_verb call)
+  pub receives : IsTrue (is_receive call)
   pub makes : Makes program names verbs (Wants call)
 
 -- the own entries of a unit that has stopped are those of its program; or it was never started
