@@ -1,0 +1,4 @@
+pub mod Compiled
+pub mod Effects
+pub mod Flat
+pub mod inner

@@ -1,0 +1,4 @@
+pub mod Emitted
+pub mod Operands
+pub mod Referents
+pub mod Written

@@ -1,0 +1,11 @@
+pub mod Simulation
+pub mod Calls
+pub mod Weights
+pub mod Written
+pub mod Comparing
+pub mod Areas
+pub mod Replying
+pub mod Stacks
+pub mod Stepping
+pub mod Running
+pub mod Wanting

@@ -1,0 +1,7 @@
+use Rattle.cob_run.proofs.Areas.{same_sizes}
+use Rattle.cob_run.proofs.actions.fill.Goals as goal
+
+pub returns-clause-sizes : goal.returns-clause-sizes
+returns-clause-sizes c =
+    same_sizes c.args.areas.now c.args.item.area c.index-areas-item.result c.move_content.new.self c.requires.item.area
+    c.move_content.ensures.long
